@@ -75,8 +75,8 @@ struct sorachest_ended sorachest_check(uint8_t *image, size_t image_length, uint
  * occurs. */
 struct sorachest_ended sorachest_repair(uint8_t *image, size_t image_length, uint8_t *replies, size_t room);
 
-/* Erases each sector that has pages which are not needed any more, and none that are, and writes `sectors erased N`. The
- * database stays. 3 and 8 never come. */
+/* Erases the sectors that hold only old data, and writes `sectors erased N`. The database stays. NO_SPACE and TOO_LONG never
+ * occur. */
 struct sorachest_ended sorachest_collect(uint8_t *image, size_t image_length, uint8_t *replies, size_t room);
 
 #ifdef __cplusplus

@@ -32,14 +32,14 @@ not_opened() {
     elif [ ! -e "$image" ] && [ ! -w "$within" ]; then say "you may not make a file in $within"
     elif [ "${input--}" != - ] && [ ! -e "$input" ]; then no_input
     elif [ "${input--}" != - ] && [ ! -r "$input" ]; then say "you may not read $input"
-    elif [ "$synced" ] && [ ! -r "$within" ]; then say "you may not read the directory $within, whose names --sync keeps"
+    elif [ "$synced" ] && [ ! -r "$within" ]; then say "you may not read the directory $within, which --sync needs"
     elif [ -e "$image" ]; then holder
     else say "$image could not be made: the disk may be full, its name too long, or a limit on files too low"
     fi
 }
 
 wrong_length() {
-    [ -f "$image" ] || { say "$image is no file that keeps bytes"; return; }
+    [ -f "$image" ] || { say "$image is not a regular file"; return; }
     size=$(wc -c <"$image")
     why="no multiple of 4,096"
     [ "$size" -ge 16384 ] || why="too few"

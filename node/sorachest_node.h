@@ -117,7 +117,7 @@ int sorachest_open(struct sorachest *db, const struct sorachest_config *config);
  * anything but 0, exec skips the other rows. Commands after a refused one are not carried out.
  *
  * OK: all commands are done, and in the flash, also without power. REFUSED, NO_SPACE: all before the last one tried are.
- * FLASH: all before the interrupted one are; that one may be there in part, see sorachest_repair. The database is then closed.
+ * FLASH: all before the interrupted one are; that one may be done in part, see sorachest_repair. The database is then closed.
  * MISUSE: `command` is NULL, the database is closed, an earlier query has rows left, or the call came from a callback. */
 typedef int sorachest_row(void *context, const struct sorachest *db);
 int sorachest_exec(struct sorachest *db, const char *command, sorachest_row *row, void *context);

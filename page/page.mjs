@@ -42,7 +42,7 @@ let repaired;
 
 // ---- one thing at a time
 
-/** Does something that takes time; meanwhile only Stop is heeded. */
+/** Does something that takes time; meanwhile only Stop works. */
 async function doing(action) {
     if (isBusy) return say('Wait until this has ended, or stop it.');
     say('');
@@ -71,7 +71,7 @@ function setBusy(is) {
     document.documentElement.dataset.busy = is ? 'yes' : 'no';
 }
 
-/** Says what came of a button or a file, until the next one. */
+/** Shows the result of a button or a file, until the next one. */
 function say(text, items = []) {
     by('message').hidden = text === '';
     by('said').textContent = text;

@@ -1,16 +1,16 @@
-// The calls that the program makes, as it makes them: a count has 64 bits on every processor, whatever `size_t` has there.
+// The system calls of the program. A count has 64 bits on every processor, whatever the size of `size_t`.
 #pragma once
 #include <stddef.h>
 #include <stdint.h>
 
 typedef uint64_t usize;
 
-// What an allocation answers: whether there was room, and where.
+// The result of an allocation: whether there was room, and where.
 struct taken {
     uint64_t well, at;
 };
 
-// How processors of 64 bits allocate, and how those of 32 bits do, where `addresses32.py` makes the one from the other.
+// Allocation on 64-bit processors, and on 32-bit ones, for which `addresses32.py` rewrites the calls.
 struct taken rattle_alloc(usize count, usize alignment);
 struct taken rattle_realloc(void *old, usize kept, usize count, usize alignment);
 void node_alloc(struct taken *taken, usize count, usize alignment);

@@ -1,4 +1,4 @@
-// Flash chips with the command set of Intel's (CFI).
+// A driver for flash chips with Intel's command set (CFI).
 #include "chip.h"
 
 // Each command and each bit of the status, for both chips.
@@ -13,7 +13,7 @@ enum {
     FAILED = 0x003a003a,
 };
 
-// How often a status is read before a chip is taken for broken.
+// How often a status is read before a chip counts as broken.
 #ifndef MOST_POLLS
 #define MOST_POLLS (1u << 28)
 #endif
@@ -30,7 +30,7 @@ static void bus_put(uintptr_t at, uint32_t word) { *(volatile uint32_t *)at = wo
 
 static uintptr_t word_at(uintptr_t at) { return at & ~(uintptr_t)3; }
 
-// ---- What is done over it
+// ---- Commands
 
 void chip_read(uintptr_t at, uint8_t *into, size_t count) {
     for (; count && at & 3; at++, count--) *into++ = bus_get_byte(at);
@@ -44,7 +44,7 @@ void chip_read(uintptr_t at, uint8_t *into, size_t count) {
     for (; count; at++, count--) *into++ = bus_get_byte(at);
 }
 
-// Waits until the chips are done, and has them read their array again. Whether all went well.
+// Waits until the chips are done, and switches them back to reading. Returns whether they succeeded.
 static int is_done(uintptr_t word) {
     for (uint32_t tries = 0; tries < MOST_POLLS; tries++) {
         uint32_t status = bus_get(word);

@@ -1,5 +1,5 @@
-// Flash chips with the command set of Intel's (CFI), which are mapped into memory: two of 16 bits side by side, so that each
-// access is of 32 bits.
+// A driver for memory-mapped flash chips with Intel's command set (CFI): two chips of 16 bits side by side, so that each access
+// has 32 bits.
 #pragma once
 #include <stddef.h>
 #include <stdint.h>

@@ -1,5 +1,5 @@
-// Division of numbers of 64 bits, which compilers call on processors of 32 bits: by the names of RISC-V, and for ARM's by
-// `divide_thumb.S`. Of a division by zero the answer is any number: the program makes none.
+// Division of 64-bit numbers, which compilers call on 32-bit processors: under RISC-V's names, and through `divide_thumb.S`
+// under ARM's. A division by zero gives any number; the program makes none.
 #include <stdint.h>
 
 enum { DIGIT = 1 << 16 };
@@ -17,7 +17,7 @@ static uint32_t next_digit(uint32_t *rest, uint32_t digit, uint32_t by) {
     return quotient;
 }
 
-// Divides `rest` and a further word by a word that is more than it.
+// Divides `rest` and one more word by a word that is larger than `rest`.
 static uint32_t next_word(uint32_t *rest, uint32_t word, uint32_t by) {
     int shift = __builtin_clz(by);
     by <<= shift;
@@ -64,7 +64,7 @@ uint64_t divide_unsigned(uint64_t number, uint64_t by, uint64_t *rest) {
 
 static uint64_t size_of(int64_t number) { return number < 0 ? -(uint64_t)number : (uint64_t)number; }
 
-// The rest has the sign of the number.
+// The remainder has the sign of the number.
 int64_t divide_signed(int64_t number, int64_t by, int64_t *rest) {
     uint64_t left, quotient = divide_unsigned(size_of(number), size_of(by), &left);
     *rest = (int64_t)(number < 0 ? -left : left);

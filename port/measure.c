@@ -1,5 +1,5 @@
-// Figures of a run: the instructions that it took, less those in which the line was waited for, and how much of the stack and of
-// the heap it used. The linker puts the calls with `__wrap_` before those of node.c.
+// Figures of a run: its instructions, without those spent waiting for the line, and its use of the stack and the heap. The
+// linker replaces calls of node.c by those with `__wrap_`.
 #include "measure.h"
 #include "calls.h"
 #include "node.h"
@@ -36,7 +36,7 @@ int64_t __wrap_write(int file, const uint8_t *from, usize count) {
 
 void measure_begin(uint64_t (*instructions)(void)) {
     uint64_t *here = __builtin_frame_address(0);
-    // this call's own frame stays as it is
+    // this call's own frame is left alone
     for (volatile uint64_t *word = stack_low; word < here - 32; word++) *word = paint;
     counter = instructions;
     go_on();

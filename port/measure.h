@@ -2,7 +2,7 @@
 #pragma once
 #include <stdint.h>
 
-// Begins to count by this counter, and paints the stack.
+// Starts counting with this counter, and fills the stack with a pattern.
 void measure_begin(uint64_t (*instructions)(void));
-// Tells on the line what was counted.
+// Writes the figures to the line.
 void measure_end(void (*put)(uint8_t byte));

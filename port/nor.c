@@ -12,7 +12,7 @@ enum {
     // bits of the status
     IS_BUSY = 1,
     MAY_WRITE = 2,
-    // a flash of the program has at least 4 sectors and at most 4,095
+    // the program uses 4 to 4,095 sectors
     LEAST_SECTORS = 4,
     MOST_SECTORS = 4095,
 };
@@ -25,7 +25,7 @@ static int answer(const struct nor *chip, uint8_t command, uint8_t *into, size_t
     return chip->exchange(chip->context, &command, 1, NULL, into, count);
 }
 
-// A command with an address behind it: how many bytes both have.
+// A command followed by an address: the bytes of both.
 static size_t head_of(const struct nor *chip, uint8_t command, uint32_t at, uint8_t head[5]) {
     size_t count = 0;
     head[count++] = command;
@@ -42,7 +42,7 @@ static int is_ready(const struct nor *chip) {
     return 0;
 }
 
-// Each program and each erase wants the leave to write, which the chip takes back behind it. One that is protected gives none.
+// Each program and each erase must be enabled first; afterwards the chip disables them again. A protected chip does not enable them.
 static int may_write(const struct nor *chip) {
     uint8_t status;
     if (!send(chip, ENABLE_WRITE) || !answer(chip, READ_STATUS, &status, 1)) return 0;
@@ -60,7 +60,7 @@ static int read_parameters(const struct nor *chip, uint32_t at, uint8_t *into, s
     return chip->exchange(chip->context, head, sizeof head, NULL, into, count);
 }
 
-// How many sectors the second word of a chip's parameters tells: its bits less 1, or a power of two of them.
+// The sectors by the second word of a chip's parameters: its size in bits minus 1, or as a power of two.
 static uint32_t sectors_told(uint32_t density) {
     uint64_t bits = (uint64_t)density + 1;
     if (density >> 31) {
@@ -70,16 +70,16 @@ static uint32_t sectors_told(uint32_t density) {
     return (uint32_t)(bits / 8 / NOR_SECTOR);
 }
 
-// Takes the parameters of JEDEC's standard 216 (SFDP). Whether the chip tells them, and can be used so.
+// Reads the parameters of JEDEC's standard 216 (SFDP). Returns whether the chip has them, and can be used.
 static int takes_parameters(struct nor *chip, int *is_told) {
     uint8_t head[16], words[8];
     if (!read_parameters(chip, 0, head, sizeof head)) return 0;
-    // "SFDP", and behind it the header of the basic table, whose number is 0: its length in words, and its place
+    // "SFDP", followed by the header of the basic table, which has number 0: its length in words, and its place
     *is_told = word_of(head) == 0x50444653 && head[8] == 0 && head[11] >= 2;
     if (!*is_told) return 1;
     if (!read_parameters(chip, word_of(head + 12) & 0xffffff, words, sizeof words)) return 0;
     const uint32_t first = word_of(words);
-    if ((first & 3) != 1) return 0; // sectors of 4 KiB are erased by no command
+    if ((first & 3) != 1) return 0; // no command erases sectors of 4 KiB
     chip->erase = (uint8_t)(first >> 8);
     chip->address_bytes = (first >> 17 & 3) == 2 ? 4 : 3;
     chip->sectors_of_chip = sectors_told(word_of(words + 4));
@@ -93,10 +93,10 @@ int nor_begin(struct nor *chip) {
     chip->address_bytes = 3;
     chip->sectors_of_chip = chip->sectors = 0;
     if (!is_ready(chip) || !answer(chip, READ_NUMBERS, numbers, sizeof numbers)) return 0;
-    // where no chip is, the line stays at 0 or at 1
+    // without a chip the line stays at 0 or at 1
     if (numbers[0] == 0 || numbers[0] == 0xff) return 0;
     if (!takes_parameters(chip, &is_told)) return 0;
-    // the third number is mostly the power of two that the chip's bytes are
+    // on most chips the third number is the size in bytes as a power of two
     if (!is_told && numbers[2] >= 14 && numbers[2] <= 31) chip->sectors_of_chip = ((uint32_t)1 << numbers[2]) / NOR_SECTOR;
     if (chip->sectors_of_chip < LEAST_SECTORS) return 0;
     chip->sectors = chip->sectors_of_chip < MOST_SECTORS ? chip->sectors_of_chip : MOST_SECTORS;
@@ -117,7 +117,7 @@ int nor_read(const struct nor *chip, uint32_t at, uint8_t *into, size_t count) {
     return count == 0 || chip->exchange(chip->context, head, head_count, NULL, into, count);
 }
 
-// What passes a page's end would come to stand at its beginning.
+// Bytes beyond the end of a page would be written to its beginning.
 int nor_program(const struct nor *chip, uint32_t at, const uint8_t *bytes, size_t count) {
     if (!is_within(chip, at, count)) return 0;
     while (count) {

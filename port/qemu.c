@@ -1,11 +1,11 @@
-// What the boards of qemu have in common: the words, the line, and what happens from power on to power off. BOARD names the
-// header of one of them.
+// The common part of qemu's boards: arguments, line, and what happens from power on to power off. BOARD names the header of
+// one of them.
 #include BOARD
 #include "measure.h"
 #include "node.h"
 #include "task.h"
 
-// ---- The words, each with a zero behind it, and a zero behind the last
+// ---- The arguments, each ended by a zero, and another zero after the last
 
 const char *board_word(size_t place) {
     const char *word = loaded;
@@ -26,7 +26,7 @@ void board_put(uint8_t byte) {
 #ifdef TASK
 int board_take(void) { return task_next_byte(); }
 
-// A firmware that has other work to do: it feeds the database what has come, byte by byte.
+// A firmware that has other work to do: it feeds the database each byte that has arrived.
 static int carry_out(void) {
     int status = task_begin();
     while (status == TASK_WAITS)
@@ -55,5 +55,5 @@ void board_start(void) {
     power_off(status);
 }
 
-// What start code calls for a trap, if it does not end the board itself.
+// Start code calls this for a trap, unless it ends the board itself.
 void board_trapped(void) { power_off(99); }

@@ -29,7 +29,7 @@ static int exchange(void *context, const uint8_t *head, size_t head_count, const
 
 static struct nor chip;
 
-// A chip that does not answer has no sectors, and of such a flash the status is 10.
+// A chip that does not answer has no sectors, so the status is 10.
 uint32_t board_sectors(void) {
     if (!chip.exchange) {
         bus[MAPPED] = 0;

@@ -9,7 +9,7 @@
 #define SECTORS 128
 #endif
 
-// Where the loader of qemu leaves the words.
+// Where qemu's loader puts the arguments.
 static const char *const loaded = (const char *)0x80400000;
 
 enum { SENT = 0, TAKEN = 1, SENDS = 2, TAKES = 3, ON = 1 };
@@ -21,7 +21,7 @@ static inline void port_begin(void) {
     port[TAKES] = ON;
 }
 
-// A byte that was taken is gone from the port: it is kept until it is asked for, with a bit above it that says so.
+// Reading a byte removes it from the port: it is kept until it is needed, with a bit above it as a mark.
 enum { IS_KEPT = 0x100 };
 
 static inline uint32_t *kept_byte(void) {
@@ -45,7 +45,7 @@ static inline uint8_t port_take(void) {
 static inline int port_has_room(void) { return !(port[SENT] >> 31); }
 static inline void port_put(uint8_t byte) { port[SENT] = byte; }
 
-// qemu writes the chip's file beside the run, and what it has not yet written when the run ends is lost: it gets half a second.
+// qemu writes the chip's file in the background, and loses what is not written when the run ends: it gets half a second.
 static inline void wait_for_chip(void) {
     volatile uint32_t *const microseconds = (volatile uint32_t *)0x0200bff8;
     const uint32_t begin = *microseconds;
@@ -54,7 +54,7 @@ static inline void wait_for_chip(void) {
 
 static inline void power_off(int status) {
     wait_for_chip();
-    // the call that ends the program, with the reason that it ended by itself; on 32 bits it is the one that takes a status
+    // the call that ends the program, with the reason that it exited; on 32 bits the variant that takes a status
     volatile uintptr_t reason[2] = {0x20026, (uintptr_t)status};
     register uintptr_t call __asm__("a0") = sizeof call == 8 ? 0x18 : 0x20;
     register volatile uintptr_t *with __asm__("a1") = reason;

@@ -1,5 +1,5 @@
-// The flash of qemu's boards with an STM32: a file of the host, whose file 9 it is, with 4,096 bytes a sector as a serial NOR chip
-// has them. `nor.c` is what drives such a chip.
+// The flash of qemu's boards with an STM32: file 9 of the host, with sectors of 4,096 bytes as a serial NOR chip has. `nor.c` is
+// the driver of such a chip.
 #include BOARD
 #include "node.h"
 
@@ -34,8 +34,8 @@ static int is_put(uint32_t sector, uint32_t at, const uint8_t *bytes, size_t cou
     return ask_host(HOST_WRITE, words) == 0;
 }
 
-// Two bytes at an even place go at once and all others one by one, so that power that goes in between leaves what it would leave
-// on a chip.
+// Two bytes at an even place are written at once, and all others one by one, so that a power cut leaves what it would leave on
+// a chip.
 int board_program(uint32_t sector, uint32_t at, const uint8_t *bytes, size_t count) {
     uint8_t page[PAGE];
     if (!board_read(sector, at, page, count)) return 0;

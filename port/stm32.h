@@ -1,9 +1,9 @@
 // qemu-system-arm -M netduinoplus2 (STM32F405, a Cortex-M4) and -M netduino2 (STM32F205, a Cortex-M3): USART1, TIM2, and
-// semihosting, by which the board asks the host for its flash and for the end.
+// semihosting, by which the board reaches its flash on the host and ends.
 #pragma once
 #include <stdint.h>
 
-// Where the loader of qemu leaves the words: in the last 4 KiB of the processor's own flash.
+// Where qemu's loader puts the arguments: in the last 4 KiB of the processor's own flash.
 static const char *const loaded = (const char *)0x080ff000;
 
 enum { STATUS = 0, DATA = 1, CONTROL = 3, TAKEN = 0x20, SENT = 0x80, ON = 0x200c };
@@ -25,7 +25,7 @@ static inline uint32_t open_on_host(const char *name, uint32_t length) {
     return ask_host(HOST_OPEN, words);
 }
 
-// Until its port is on, a board of qemu loses what comes: the host is told on its file 8 that it may send.
+// Until its port is on, a board of qemu loses what arrives: it writes to file 8 of the host when the host may send.
 static inline void port_begin(void) {
     static const char name[] = "/dev/fd/8";
     port[CONTROL] = ON;
@@ -41,7 +41,7 @@ static inline uint8_t port_take(void) { return (uint8_t)port[DATA]; }
 static inline void port_put(uint8_t byte) { port[DATA] = byte; }
 
 static inline void power_off(int status) {
-    // that it ended by itself, and how
+    // that it exited, and with which status
     const uint32_t reason[2] = {0x20026, (uint32_t)status};
     for (;;) ask_host(HOST_END, reason);
 }

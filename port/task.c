@@ -2,16 +2,16 @@
 #include "task.h"
 #include "node.h"
 
-// As much as the program needs: README.md has the figures.
+// As large as the program needs: README.md has the figures.
 #ifndef TASK_STACK
 #define TASK_STACK (92 * 1024)
 #endif
 
 enum { NO_BYTE = -1 };
 
-// Of switch_*.S: keeps this stack at `kept`, and goes on with another one that was kept so.
+// In switch_*.S: saves this stack in `kept`, and continues on another one that was saved in this way.
 extern void switch_stack(void **kept, void *other);
-// A stack on which nothing has run, as `switch_stack` keeps it: going on with it calls `begin`.
+// A fresh stack, as `switch_stack` saves one: continuing on it calls `begin`.
 extern void *new_stack(void *high, void (*begin)(void));
 
 static _Alignas(16) uint8_t stack[TASK_STACK];

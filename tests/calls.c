@@ -1,7 +1,7 @@
-// Notes the calls of a program that tell what a disk keeps of its writes, in their order, in the file that CALLS names:
+// Notes the calls of a program that decide what a disk keeps of its writes, in their order, in the file that CALLS names:
 //   W  bytes at a place of a file: 8 bytes of the place, 8 of their number, and the bytes
 //   S  a file, or a folder, is on the disk
-//   A  so many bytes were written to standard output: 8 bytes of their number
+//   A  bytes were written to standard output: 8 bytes with their number
 // It is loaded before the C library, and makes each call as it is.
 #define _GNU_SOURCE
 #include <dlfcn.h>

@@ -13,7 +13,7 @@ import signal
 import sys
 import tempfile
 
-# what the shell of the caller may have set, and what would change what the tests see
+# variables of the caller's shell that would change the results
 UNWANTED = ("ANTELOPE_SYNC", "LANGUAGE", "GIT_DIR", "GIT_WORK_TREE", "GIT_INDEX_FILE", "CDPATH", "POSIXLY_CORRECT")
 SIGNALS = (signal.SIGHUP, signal.SIGINT, signal.SIGQUIT, signal.SIGTERM, signal.SIGPIPE)
 
@@ -31,7 +31,7 @@ def settle(megabytes):
             os.fstat(number)
         except OSError:
             os.open(os.devnull, os.O_RDWR)
-    # what a shell has ignored for what it puts behind; a hangup stays ignored, as nohup wants it
+    # signals that a shell ignores in the background; a hangup stays ignored, as nohup needs
     for number in (signal.SIGINT, signal.SIGQUIT, signal.SIGTERM):
         if signal.getsignal(number) == signal.SIG_IGN:
             signal.signal(number, signal.SIG_DFL)

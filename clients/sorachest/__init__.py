@@ -1,4 +1,4 @@
-"""A station's database for programs in Python, as PEP 249 has it, over a line on which `serve` answers.
+"""A station's database for programs in Python, by PEP 249, over a line on which `serve` answers.
 
     import sorachest
     with sorachest.connect("/dev/ttyUSB0", speed=115200) as station:
@@ -10,18 +10,18 @@
 A line is named in one of these ways:
 
     /dev/ttyUSB0                          a serial port, a pty or a Unix socket, by its path
-    station.img                           an image, on which the program is started; it ends with the connection
+    station.img                           an image: the program is started on it, and ends with the connection
     tcp:HOST:PORT                         a TCP socket
     run:./antelope serve station.img -    a command that is started; it ends with the connection
 
 One line has one reader, since two readers would take each other's bytes. A port is locked, so that a second
-program waits until the first is done. `sorachest-hub /dev/ttyUSB0 station` lends it to up to four programs,
+program waits until the first is done. `sorachest-hub /dev/ttyUSB0 station` shares it among up to four programs,
 which connect to "station".
 
-A command is carried out for good when it is executed: there is nothing to commit, and no way back. Values are
-whole numbers and texts, and None for an aggregate without a value. A date or a datetime is written as
-milliseconds since 1970, UTC; attributes that `connect` is given as `times` come back as datetimes. The types
-in a cursor's description are those of its first row, since a line tells no others.
+A command takes effect when it is executed: there is nothing to commit, and nothing can be rolled back. Values
+are whole numbers and texts, and None for an aggregate without a value. A date or a datetime is written as
+milliseconds since 1970, UTC; the attributes in the argument `times` of `connect` come back as datetimes. The
+types in a cursor's description are those of its first row, since a line sends no others.
 """
 from sorachest.dbapi import Connection, Cursor, connect
 from sorachest.errors import (

@@ -23,6 +23,8 @@ def ask(wanted):
 
 def main():
     parser = tool.parser(sorachest.__doc__)
+    if sys.argv[0].endswith("__main__.py"):
+        parser.prog = "python3 -m sorachest"
     forms = parser.add_subparsers(required=True, metavar="ask|hub")
     form = forms.add_parser("ask", help=ask.__doc__, description=ask.__doc__)
     form.set_defaults(do=ask)

@@ -6,7 +6,7 @@ import re
 from sorachest.values import MOST_TEXT, milliseconds
 
 NUMBERS = {"INT": range(-(2**15), 2**15), "LONG": range(-(2**31), 2**31), "TIME": range(2**47)}
-# a number as AQL writes it: what has a zero or a plus in front may be the name of something
+# a number as AQL writes it: one with a leading zero or a plus may be a name
 WHOLE = re.compile("0|-?[1-9][0-9]{0,17}")
 DECIMAL = re.compile(r"-?[0-9]{0,18}\.[0-9]{1,18}")
 ISO = re.compile(
@@ -15,19 +15,19 @@ ISO = re.compile(
 
 
 class Unfit(Exception):
-    """The CSV has what AQL has not."""
+    """The CSV has something that AQL does not have."""
 
 
 def time_of(text):
-    """The milliseconds since 1970 that an ISO time means; it is of UTC if it names no zone."""
+    """The milliseconds since 1970 of an ISO time, which is UTC if it names no zone."""
     year, month, day, hour, minute, second, part, zone = ISO.fullmatch(text).groups(default="")
     try:
         time = datetime.datetime(*(int(it or 0) for it in (year, month, day, hour, minute, second)))
     except ValueError as error:
-        raise Unfit(f"{text!r} is no time: {error}") from error
+        raise Unfit(f"{text!r} is not a time: {error}") from error
     part = part.ljust(9, "0")
     if part[3:] != "000000":
-        raise Unfit(f"{text!r} has parts of a millisecond, which a TIME has not")
+        raise Unfit(f"{text!r} has fractions of a millisecond, which a TIME cannot have")
     digits = zone.lstrip("Z+-").replace(":", "")
     minutes = int(digits[:2]) * 60 + int(digits[2:]) if digits else 0
     moved = -minutes if zone.startswith("-") else minutes
@@ -46,7 +46,7 @@ class Column:
         full = [it.strip() for it in cells if it.strip()]
         self.blanks = len(cells) - len(full)
         has_decimals = any(DECIMAL.fullmatch(self._pointed(it)) for it in full)
-        # one scale for all columns is for those that have decimals
+        # a scale for all columns changes only those that have decimals
         self.scale = scale or (all_scale if has_decimals else None) or 1
         self.is_guessed = domain is None
         self.domain = domain or self._guessed(full)
@@ -61,12 +61,12 @@ class Column:
         text = cell.strip()
         if not text:
             if self._blank is None:
-                raise Unfit(f"{self.name} is blank: --blank names what stands for that")
+                raise Unfit(f"{self.name} is blank: use --blank VALUE or --blank skip")
             return self._in_domain(self._blank, text)
         return self._in_domain(self._number(text), text)
 
     def is_blank(self, cell):
-        """Whether a cell has no value where one is wanted; a text may be empty."""
+        """Whether a cell is blank although its column needs a value; a text may be empty."""
         return self.domain in NUMBERS and not cell.strip()
 
     def _pointed(self, text):
@@ -80,22 +80,22 @@ class Column:
             return int(text) * self.scale
         if not DECIMAL.fullmatch(pointed):
             numbers = NUMBERS[self.domain]
-            raise Unfit(f"{text!r} is no number from {numbers[0]} to {numbers[-1]}")
+            raise Unfit(f"{text!r} is not a number from {numbers[0]} to {numbers[-1]}")
         number = decimal.Decimal(pointed) * self.scale
         if number != int(number):
             scale = 10 ** len(pointed.partition(".")[2].rstrip("0"))
-            raise Unfit(f"{text!r} times {self.scale} is no whole number: --scale {self.name}={scale} makes one of it")
+            raise Unfit(f"{text!r} times {self.scale} is not a whole number: use --scale {self.name}={scale}")
         return int(number)
 
     def _in_domain(self, number, text):
         numbers = NUMBERS[self.domain]
         if number not in numbers:
             made = f" makes {number}, which" if str(number) != text else ""
-            raise Unfit(f"{text!r}{made} is no number from {numbers[0]} to {numbers[-1]}")
+            raise Unfit(f"{text!r}{made} is not a number from {numbers[0]} to {numbers[-1]}")
         return number
 
     def _guessed(self, full):
-        """The narrowest domain that takes these cells."""
+        """The narrowest domain that fits these cells."""
         if full and all(map(ISO.fullmatch, full)):
             return "TIME"
         if not full or not all(WHOLE.fullmatch(it) or DECIMAL.fullmatch(self._pointed(it)) for it in full):
@@ -110,10 +110,10 @@ class Column:
 
 
 def checked(domain):
-    """How many characters a text of a domain has at most; 0 for numbers."""
+    """The most characters of a text of a domain; 0 for numbers."""
     found = re.fullmatch(r"STRING\(([0-9]{1,2})\)", domain)
     if domain in NUMBERS:
         return 0
     if not found or not 1 <= int(found[1]) <= MOST_TEXT:
-        raise Unfit(f"{domain!r} is no domain: INT, LONG, TIME, or STRING(1) to STRING({MOST_TEXT})")
+        raise Unfit(f"{domain!r} is not a domain: INT, LONG, TIME, or STRING(1) to STRING({MOST_TEXT})")
     return int(found[1])

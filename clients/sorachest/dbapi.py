@@ -10,12 +10,12 @@ from sorachest.line import CLIENTS, MOST_COMMAND, Line
 from sorachest.values import DATETIME, NUMBER, TYPES, bind, columns, datetime_of, row_of
 from sorachest.ways import TIMEOUT, LineFailed
 
-# the room that a program still has when it is started anew: with no answer open, and with one
+# a program is restarted when it takes only this many bytes more: while no answer is open, and while one is
 MANY, FEW = 8 << 20, 1 << 20
 
 
 def is_time(name, times):
-    """Whether a name of a query's list is one of these attributes, or an aggregate that is such a time, too."""
+    """Whether a name in a query's list is one of these attributes, or an aggregate of one that is a time as well."""
     found = re.fullmatch(r"(?:(?:MIN|MAX|MEAN|MEDIAN)\((\w+)\))|(\w+)", name, re.IGNORECASE)
     return bool(found) and (found[1] or found[2]) in times
 
@@ -46,7 +46,7 @@ def connect(line, *, client=1, speed=None, timeout=TIMEOUT, whole=False, times=(
 
 
 class Connection:
-    """A client of a station, which has one cursor for it: one `Cursor` at a time reads that."""
+    """A client of a station. It has one cursor there, which one `Cursor` at a time reads."""
 
     Warning, Error, InterfaceError, DatabaseError = Warning, Error, InterfaceError, DatabaseError
     DataError, OperationalError, IntegrityError = DataError, OperationalError, IntegrityError
@@ -60,7 +60,7 @@ class Connection:
         self._has_changed = False
         self._reader = None
         self._is_making_room = False
-        # one who was killed may have left it open
+        # a client that was killed may have left it open
         self._is_open = True
         self._close_answer()
 
@@ -80,13 +80,13 @@ class Connection:
         self._has_changed = False
 
     def rollback(self):
-        """Does nothing where no command has changed anything, and else says that there is no way back."""
+        """Does nothing if no command has changed anything; otherwise raises an error, since nothing can be rolled back."""
         self._here()
         if self._has_changed:
             raise NotSupportedError("what was executed stays")
 
     def close(self):
-        """Closes the line; whoever comes next closes the station's cursor where this cannot."""
+        """Closes the line. If the station's cursor cannot be closed now, the next client closes it."""
         if self._line is None:
             return
         try:
@@ -104,7 +104,7 @@ class Connection:
         return self._line
 
     def _reply(self, command):
-        """The lines of the reply to a command, refusals too."""
+        """The lines of the reply to a command, also of a refusal."""
         line = self._here()
         self._make_room(line)
         try:
@@ -117,11 +117,11 @@ class Connection:
         is_alone = not rows and re.fullmatch("ok|rows [0-9]{1,10}|no [a-z]+.*", last)
         if not text.endswith("\n") or not is_alone and last != f"rows {len(rows)}":
             line.in_step = False
-            raise OperationalError(f"{command}: {text!r:.100} came, which is no reply")
+            raise OperationalError(f"{command}: {text!r:.100} came, which is not a reply")
         return [*rows, last]
 
     def _make_room(self, line):
-        """Starts a program anew before it has taken all that one run takes: its cursors are closed then.
+        """Restarts a program before it reaches its input limit. This closes its cursors.
 
         An answer that is being read is waited for as long as it may take, and then fetched to its end.
         """
@@ -146,23 +146,23 @@ class Connection:
         return reply
 
     def _change(self, command):
-        """The last line of the reply to a command that is no query."""
+        """The last line of the reply to a command that is not a query."""
         had_changed, self._has_changed = self._has_changed, True
         reply = self._reply(command)[-1]
         if reply.startswith("no "):
-            # what is refused changes nothing
+            # a refused command changes nothing
             self._has_changed = had_changed
             raise refused(command, reply)
         return reply
 
     def _let_go(self, cursor):
-        """Makes the station's cursor free: whoever else reads it keeps the rest of its rows here."""
+        """Frees the station's cursor. The `Cursor` that reads it fetches the rest of its rows first."""
         if self._reader not in (None, cursor):
             self._reader._keep_rest()
         self._close_answer()
 
     def _open_answer(self, cursor, query):
-        """Has the station's cursor answer a query, and returns the first row in a list."""
+        """Opens the station's cursor with a query, and returns the first row in a list."""
         self._is_open = True
         self._ask(f"OPEN 1 {query}")
         rows = self._next_rows()
@@ -170,7 +170,7 @@ class Connection:
         return rows
 
     def _next_rows(self):
-        """The next row in a list, which is empty behind the last one."""
+        """The next row in a list, which is empty after the last one."""
         *rows, _ = self._ask("FETCH 1")
         if not rows:
             self._close_answer()
@@ -186,7 +186,7 @@ class Connection:
 
 
 class Cursor:
-    """Executes commands, and has the rows of the last one."""
+    """Executes commands, and holds the rows of the last one."""
 
     def __init__(self, connection):
         self.connection = connection
@@ -213,7 +213,7 @@ class Cursor:
         return row
 
     def execute(self, operation, parameters=()):
-        """Carries out a command with values in the places of its `?`, and returns this cursor."""
+        """Carries out a command with values in place of its `?`, and returns this cursor."""
         connection = self._here()
         command = bind(operation, parameters)
         word = re.match(r"\w*", command)[0].upper()
@@ -236,7 +236,7 @@ class Cursor:
         return self
 
     def executemany(self, operation, seq_of_parameters):
-        """Carries out a command that is no query, once for each sequence of values."""
+        """Carries out a command that is not a query, once for each sequence of values."""
         if columns(operation.strip())[0]:
             raise ProgrammingError(f"{operation}: a query has one answer")
         total = 0
@@ -246,7 +246,7 @@ class Cursor:
         self.rowcount = total
 
     def fetchone(self):
-        """The next row; None behind the last."""
+        """The next row; None after the last one."""
         self._fill(1)
         return self._rows.popleft() if self._rows else None
 
@@ -262,7 +262,7 @@ class Cursor:
         return rows
 
     def close(self):
-        """Ends this cursor, and lets go of the station's."""
+        """Closes this cursor, and frees the station's."""
         if not self._is_closed and self.connection._line is not None:
             self._forget()
         self._is_closed = True
@@ -280,7 +280,7 @@ class Cursor:
         return self.connection
 
     def _forget(self):
-        """Lets go of the answer so far."""
+        """Drops the current answer."""
         self.description = None
         self.rowcount = -1
         self._rows.clear()
@@ -288,7 +288,7 @@ class Cursor:
             self.connection._close_answer()
 
     def _change(self, connection, word, command):
-        # an open cursor is in the way of what removes, and of nothing else
+        # only commands that remove something are refused while a cursor is open
         if word in ("REMOVE", "PACK"):
             connection._let_go(self)
         last = connection._change(command)
@@ -298,7 +298,7 @@ class Cursor:
             self.rowcount = int(last.removeprefix("rows "))
 
     def _take(self, rows):
-        """Takes rows as they came, with datetimes for the values that are times."""
+        """Takes rows as they arrived, with datetimes for the values that are times."""
         if any(self._are_times):
             rows = (tuple(map(value_of, row, self._are_times)) for row in rows)
         self._rows.extend(rows)
@@ -310,7 +310,7 @@ class Cursor:
         self.description = [(name, kind, None, None, None, None, None) for name, kind in zip(names, types)]
 
     def _fill(self, count):
-        """Has so many rows here, or all if there are fewer."""
+        """Fetches rows until this many are here, or all if there are fewer."""
         connection = self._here()
         if self.description is None:
             raise InterfaceError("there is no answer to fetch from")
@@ -318,7 +318,7 @@ class Cursor:
             try:
                 self._take(connection._next_rows())
             except DatabaseError:
-                # the row whose reply did not come would be missing from what is fetched behind it
+                # the row whose reply did not arrive would be missing among the later rows
                 self._rows.clear()
                 self.description = connection._reader = None
                 raise

@@ -1,8 +1,8 @@
-"""The exceptions of the database interface, as PEP 249 has them, and which refusal raises which."""
+"""The exceptions of PEP 249, and the refusals that raise each."""
 
 
 class Warning(Exception):
-    """Nothing here warns."""
+    """Never raised here."""
 
 
 class Error(Exception):
@@ -10,15 +10,15 @@ class Error(Exception):
 
 
 class InterfaceError(Error):
-    """What was called is closed, or has no answer."""
+    """The connection or cursor is closed, or has no answer."""
 
 
 class DatabaseError(Error):
-    """A command was refused, or its reply did not come."""
+    """A command was refused, or its reply did not arrive."""
 
 
 class DataError(DatabaseError):
-    """A value does not suit, or cannot be written in AQL."""
+    """A value does not fit its attribute, or cannot be written in AQL."""
 
 
 class OperationalError(DatabaseError):
@@ -30,15 +30,15 @@ class IntegrityError(DatabaseError):
 
 
 class InternalError(DatabaseError):
-    """The database is at odds with itself, which its program would not serve."""
+    """The database contradicts itself, so its program would not serve it."""
 
 
 class ProgrammingError(DatabaseError):
-    """The command is none, or names what is not there, or what is there already."""
+    """The command is not AQL, or names something that does not exist, or that exists already."""
 
 
 class NotSupportedError(DatabaseError):
-    """There is no such thing in AQL."""
+    """AQL does not have this."""
 
 
 REFUSALS = {

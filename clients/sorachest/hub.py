@@ -1,15 +1,15 @@
 #!/usr/bin/env python3
-"""Lends a line to up to four clients of a Unix socket, one exchange after the other.
+"""Shares a line among up to four clients of a Unix socket, one exchange after the other.
 
     sorachest-hub /dev/ttyUSB0 station
     sorachest-hub /dev/ttyUSB0 station --mode 660 --group sensors
 
-A client sends and hears frames as on the line itself. Whatever number its frames bear, it has one of its own
-on the line, and so a cursor of its own, which is closed when the client leaves or is killed. A fifth client
-waits until one of the four has left, or until one has been silent for --idle seconds: that one is let go.
+A client sends and receives frames as on the line itself. Whatever client number its frames have, it gets a number
+of its own on the line, and so a cursor of its own, which is closed when the client leaves or is killed. A fifth
+client waits until one of the four leaves, or has been silent for --idle seconds and is disconnected.
 
-Who may write to the socket may connect, and may then read, change and remove everything: there are no
-passwords. That is the user who started the hub alone, if --mode does not say otherwise.
+There are no passwords: everyone who may write to the socket can connect, and read, change and remove everything.
+Without --mode this is only the user who started the hub.
 """
 import contextlib
 import os
@@ -25,15 +25,15 @@ from sorachest import tool
 from sorachest.line import CLIENTS, END, MOST_COMMAND, Line, decode
 from sorachest.ways import TIMEOUT, LineClosed, LineFailed
 
-SUMMARY = "lends a line to up to four clients of a Unix socket"
-# more bytes than the longest frame that is heard has with its escapes
+SUMMARY = "shares a line among up to four clients of a Unix socket"
+# more bytes than the longest accepted frame has with its escapes
 MOST_PART = 2 * MOST_COMMAND + 64
 IDLE = 60.0
 MODE = 0o600
 
 
 class Guest:
-    """A client: what it has sent, and what it has not yet taken of the replies."""
+    """A client: what it has sent, and the replies that it has not yet read."""
 
     def __init__(self, link, number):
         link.setblocking(False)
@@ -54,7 +54,7 @@ class Guest:
         return self.has_ended and not self.replies and not self.has_frame()
 
     def hear(self):
-        """Takes what has come. Of a frame that is too long its front is enough to refuse it."""
+        """Receives bytes. Of a frame that is too long only the front is kept, which is enough to refuse it."""
         try:
             came = self._link.recv(4096)
         except BlockingIOError:
@@ -68,7 +68,7 @@ class Guest:
             del self.asked[MOST_PART:]
 
     def answer(self):
-        """Gives as much of the replies as it takes; none to one that is gone."""
+        """Sends as much of the replies as the client accepts; nothing to one that is gone."""
         try:
             del self.replies[:self._link.send(self.replies)]
             self._acted_at = time.monotonic()
@@ -83,13 +83,13 @@ class Guest:
         self.replies.clear()
 
     def silence(self):
-        """For how many seconds it has neither said anything nor taken its replies."""
+        """The seconds in which it has neither sent anything nor read its replies."""
         is_next = self.has_frame() and not self.replies
         return 0 if is_next else time.monotonic() - self._acted_at
 
     def reply(self, text):
         self.replies += text + END
-        # it was not silent while it waited
+        # the time in which it waited for a place does not count
         self._acted_at = time.monotonic()
 
     def has_frame(self):
@@ -99,7 +99,7 @@ class Guest:
         part, end, rest = self.asked.partition(END)
         if not end:
             return b""
-        # a run of END is no frame
+        # several END in a row are not frames
         self.asked = rest.lstrip(END)
         return bytes(part)
 
@@ -125,14 +125,14 @@ class Hub:
                     close_cursor(self._line, guest.number)
 
     def _wait(self):
-        """Waits until someone says or takes something, unless there is a frame to carry on."""
-        # one that has a frame waiting is heard behind that: it could send faster than the line takes
+        """Waits until a client sends or reads something, unless a frame is ready."""
+        # a client whose frame is waiting is not read before that is done: it could send faster than the line
         heard = [it for it in self._guests if not (it.has_ended or it.replies or it.has_frame())]
         has_work = any(it.has_frame() for it in self._guests if not it.replies)
         free = [it for it in CLIENTS if it not in [guest.number for guest in self._guests]]
         listened = [self._line, *heard] + ([self._listener] if free else [])
         takers = [it for it in self._guests if it.replies]
-        # while there is no room it is looked now and then whether someone waits for it
+        # while all places are taken, the hub looks now and then whether another client waits
         seconds = 0 if has_work else None if free else max(0.05, min(1.0, self._idle))
         ready, able, _ = select.select(listened, takers, [], seconds)
         for it in able:
@@ -148,13 +148,13 @@ class Hub:
             self._let_go_of_the_silent()
 
     def _let_go_of_the_silent(self):
-        """Lets go of the client that was silent for longest, if another waits for its place."""
+        """Disconnects the client that was silent for longest, if another waits for its place."""
         guest = max(self._guests, key=Guest.silence)
         if guest.silence() >= self._idle and select.select([self._listener], [], [], 0)[0]:
             guest.leave()
 
     def _exchange(self, guest):
-        """Carries one frame of a client to the line, and its reply back."""
+        """Sends one frame of a client over the line, and its reply back."""
         part = guest.next_part()
         if not part:
             return
@@ -170,12 +170,12 @@ class Hub:
             except LineClosed:
                 raise
             except LineFailed:
-                # it is not known what became of the command: the client is told by the end of its line
+                # whether the command was carried out is not known: the client sees this by its line being closed
                 guest.leave()
 
 
 def close_cursor(line, number):
-    """Closes a client's cursor, where the line lets it."""
+    """Closes a client's cursor, if the line still works."""
     try:
         line.ask(number, b"CLOSE 1")
     except LineClosed:
@@ -185,7 +185,7 @@ def close_cursor(line, number):
 
 
 def listen(path, mode=MODE, group=None):
-    """A socket whose path is there from the moment that clients can connect to it."""
+    """A socket whose path appears once clients can connect to it."""
     try:
         return listen_alone(path, mode, group)
     except (OSError, LookupError) as error:
@@ -193,7 +193,7 @@ def listen(path, mode=MODE, group=None):
 
 
 def listen_alone(path, mode, group):
-    """A socket at a path where no other hub and nothing else is."""
+    """A socket at a path that neither another hub nor anything else uses."""
     with socket.socket(socket.AF_UNIX) as other:
         if other.connect_ex(path) == 0:
             raise LineFailed(f"{path}: another hub is there")
@@ -201,7 +201,7 @@ def listen_alone(path, mode, group):
         raise LineFailed(f"{path}: there is something else")
     listener = socket.socket(socket.AF_UNIX)
     beginning = f"{path}.{os.getpid()}"
-    # nobody else may connect before the mode is set
+    # nobody may connect before the mode is set
     others = os.umask(0o177)
     try:
         listener.bind(beginning)
@@ -221,7 +221,7 @@ def listen_alone(path, mode, group):
 
 @contextlib.contextmanager
 def listening(path, mode, group):
-    """A socket at a path, which goes at the end, unless something else has taken its place."""
+    """A socket at a path, which is removed at the end, unless something else is there by then."""
     with listen(path, mode, group) as listener:
         made = os.lstat(path)
         try:
@@ -233,7 +233,7 @@ def listening(path, mode, group):
 
 
 def run(where, path, speed=None, timeout=TIMEOUT, mode=MODE, group=None, idle=IDLE):
-    """Lends a line at a path until a signal comes or the line is closed."""
+    """Shares a line at a path until a signal arrives or the line is closed."""
     line = Line(where, speed, timeout)
     with contextlib.closing(line):
         line.settle(CLIENTS[0])

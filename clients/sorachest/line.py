@@ -1,4 +1,4 @@
-"""A line on which `serve` answers frames: how a command finds its reply.
+"""A line on which `serve` answers frames: how a command gets its reply.
 
 A frame is a byte with the client's number, 1 to 4, a command and the byte END, with escapes after SLIP (RFC
 1055). Its reply is the same byte, a text and END. A reply to client 0 says that a frame came broken. How a
@@ -25,7 +25,7 @@ MOST_BYTES = 1 << 26
 MOST_BLANKS = 250
 ATTEMPTS = 3
 NO_COMMAND = ("no syntax ", "no long\n")
-# what one run of `serve` takes, and more than a command and what settles it come to
+# the input limit of a run of `serve`, and more than a command and the frames that resynchronize take
 MOST_INPUT = 16_777_216
 MOST_EXCHANGE = 8192
 
@@ -39,14 +39,14 @@ def encode(payload):
 
 
 def decode(part):
-    """The payload of a frame that comes without its END; None where an escape is broken."""
+    """The payload of a frame without its END; None if an escape is broken."""
     if re.search(rb"\xdb(?![\xdc\xdd])", part):
         return None
     return part.replace(ESCAPED_END, END).replace(ESCAPED_ESC, ESC)
 
 
 class Patience:
-    """How long may be waited, and how many bytes may come meanwhile."""
+    """How long to wait, and how many bytes may arrive meanwhile."""
 
     def __init__(self, seconds):
         self._deadline = time.monotonic() + seconds
@@ -58,11 +58,11 @@ class Patience:
     def take(self, count):
         self._bytes -= count
         if self._bytes < 0:
-            raise LineFailed("too many bytes came that were no reply")
+            raise LineFailed("too many bytes came that were not a reply")
 
 
 class Line:
-    """A line, whose replies this process alone reads."""
+    """A line whose replies only this process reads."""
 
     def __init__(self, where, speed=None, timeout=TIMEOUT):
         where = os.fspath(where)
@@ -72,7 +72,7 @@ class Line:
             raise LineFailed(f"{where}: {error}") from error
         self._timeout = timeout
         self._pending = bytearray()
-        # whether the next reply to come is that to the next frame
+        # whether the next reply answers the next frame
         self.in_step = False
         self._sent = 0
 
@@ -83,7 +83,7 @@ class Line:
         self._way.close()
 
     def room(self):
-        """How many bytes the program at the other end still takes; None where this did not start it."""
+        """How many bytes the program at the other end still accepts; None if it was not started here."""
         return MOST_INPUT - self._sent if self._way.can_start_anew else None
 
     def start_anew(self):
@@ -97,13 +97,13 @@ class Line:
         self.in_step = False
 
     def ask(self, client, command):
-        """The text of the reply to a client's command; replies to other clients are passed over."""
+        """The text of the reply to a client's command; replies to other clients are skipped."""
         frame = encode(bytes([client]) + command)
         room = self.room()
         if room is not None and room < MOST_EXCHANGE + ATTEMPTS * len(frame):
             self.start_anew()
         for attempt in range(ATTEMPTS):
-            # what came unasked answers noise
+            # an unexpected reply answers noise
             if not self.in_step or self._pending or self._has_come():
                 self.settle(client)
             self.in_step = False
@@ -111,18 +111,18 @@ class Line:
             self._send(frame, patience)
             number, reply = self._receive(patience)
             if number != client or not attempt and reply.startswith(NO_COMMAND):
-                # this answers another, or noise, or what noise has made of the command, which then was not
-                # carried out
+                # this answers another client, or noise, or a command that noise has changed and that was then
+                # not carried out
                 said = self.settle(client)
                 if not said:
                     continue
                 reply = said[0]
             self.in_step = True
             return reply
-        raise LineFailed("no frame comes through the noise")
+        raise LineFailed("no frame arrives through the noise")
 
     def settle(self, client):
-        """Brings both ends in step, and returns what was said to the client meanwhile.
+        """Resynchronizes both ends, and returns what the client received meanwhile.
 
         A broken escape ends what noise, or a client that was killed, has begun, so that it is not carried
         out. Behind it goes a command that is none, with so many blanks that its refusal is known when it
@@ -142,7 +142,7 @@ class Line:
                 said.append(text)
 
     def drop(self):
-        """Takes what has come where nothing was asked, which is no reply."""
+        """Drops what has arrived without a question, which is not a reply."""
         self._read()
         self._pending.clear()
         self.in_step = False
@@ -177,7 +177,7 @@ class Line:
 
     def _wait(self, sources, sinks, patience):
         left = patience.left()
-        # one that babbles has always something to read
+        # from a line that never falls silent there is always something to read
         if not left or not any(select.select(sources, sinks, [], left)):
             raise LineFailed("no reply came in time")
 
@@ -185,7 +185,7 @@ class Line:
         return bool(select.select([self._way.source], [], [], 0)[0])
 
     def _read(self):
-        """Takes what has come, and says how many bytes; 0 where another reader was faster."""
+        """Receives bytes, and returns how many; 0 if another reader was faster."""
         try:
             came = os.read(self._way.source, 65536)
         except BlockingIOError:
@@ -202,4 +202,4 @@ class Line:
             self._pending += os.read(self._way.source, 4096)
         said = bytes(self._pending).decode("latin-1").strip()
         ending = self._way.ending()
-        return LineClosed(f"the line was closed{' behind ' if said else ''}{said}{': ' if ending else ''}{ending}")
+        return LineClosed(f"the line was closed{' after ' if said else ''}{said}{': ' if ending else ''}{ending}")

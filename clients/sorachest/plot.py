@@ -1,11 +1,11 @@
 #!/usr/bin/env python3
-"""Draws an attribute over another, a point for each row of a query's answer.
+"""Plots one attribute over another, a point for each row of a query's answer.
 
     sorachest-plot station.img 'SELECT minute, celsius FROM readings'              in the terminal
     sorachest-plot station.img 'SELECT at, celsius FROM readings' --svg --title Attic > readings.svg
 
-The first name of the query goes to the right, and the second up. Numbers that are milliseconds since 1970, from
-the year 2000 on, are written as dates of UTC; --numbers leaves them as they are.
+The first name of the query is the horizontal axis, and the second the vertical one. Numbers that look like
+milliseconds since 1970, from the year 2000 on, are written as dates of UTC; --numbers writes them as numbers.
 """
 import argparse
 import math
@@ -20,7 +20,7 @@ from sorachest.values import datetime_of
 WIDTH, HEIGHT = 800, 480
 LEFT, RIGHT, TOP, BOTTOM = 110, 50, 54, 60
 ROWS = 20
-# of more points a line through them tells more than they do
+# if there are more points, a line through them is clearer
 MOST_DOTS = 400
 
 SECOND = 1000
@@ -35,7 +35,7 @@ CLOCK = range(946684800000, 4102444800000)
 
 
 class Unfit(Exception):
-    """The answer has no two columns of numbers."""
+    """The answer does not have two columns of numbers."""
 
 
 def read_points(wanted):
@@ -46,19 +46,19 @@ def read_points(wanted):
         names = [it[0] for it in cursor.description or ()]
         points = cursor.fetchall() if names else []
     if len(names) != 2 or not all(isinstance(it, int) for point in points for it in point):
-        raise Unfit(f"{wanted.query}: that does not answer two columns of numbers")
+        raise Unfit(f"{wanted.query}: the answer does not have two columns of numbers")
     return names, points
 
 
 class Axis:
-    """Numbers along a length, or times if all of them are such."""
+    """An axis of numbers, or of times if all of them look like times."""
 
     def __init__(self, numbers, is_number=False):
         self.low, self.high = min(numbers, default=0), max(numbers, default=0)
         self._is_clock = not is_number and self.low in CLOCK and self.high in CLOCK
 
     def place(self, number, length):
-        """How far along it a number is; in the middle if all numbers are one."""
+        """The place of a number on the axis, from 0 to 1; the middle if all numbers are equal."""
         if self.low == self.high:
             return length / 2
         return (number - self.low) * length / (self.high - self.low)
@@ -74,7 +74,7 @@ class Axis:
         return range(-(-self.low // step) * step, self.high + 1, step)
 
     def text(self, number):
-        """A number as it stands beside the axis: of a time what tells it from the others."""
+        """The label of a number on the axis: of a time, the part in which it differs from the others."""
         if not self._is_clock:
             return str(number)
         time, span = datetime_of(number), self.high - self.low
@@ -83,7 +83,7 @@ class Axis:
         return f"{time:%m-%d %H:%M}" if span > 2 * HOUR else f"{time:%H:%M:%S}"
 
     def end(self, number):
-        """The first or the last number, whole."""
+        """The whole label of the first or the last number."""
         return f"{datetime_of(number):%Y-%m-%d %H:%M}" if self._is_clock else str(number)
 
 
@@ -92,7 +92,7 @@ def axes(points, is_number):
 
 
 def thinned(places):
-    """Of places that stand above each other in a line no more than tell where the line goes."""
+    """The points of a line, without those that change nothing in the picture."""
     columns = {}
     for x, y in places:
         columns.setdefault(math.floor(x * 2), []).append((x, y))
@@ -103,7 +103,7 @@ def thinned(places):
 
 
 def paths(places):
-    """One path for all dots, unless they are many, and one for a line through them, if they go to the right."""
+    """A path for all dots, unless there are many, and one for a line through them, if they go from left to right."""
     is_line = len(places) > 1 and all(one[0] <= other[0] for one, other in zip(places, places[1:]))
     if is_line:
         line = "L".join(f"{x:.1f} {y:.1f}" for x, y in thinned(places))
@@ -140,7 +140,7 @@ def svg(names, points, title, is_number):
 
 
 def text(names, points, title, width, is_number):
-    """The points as lines of a terminal: `*` for one in a place, and `#` for more."""
+    """The points as lines of text: `*` for one in a place, and `#` for more."""
     right, up = axes(points, is_number)
     margin = max(len(up.end(it)) for it in (up.low, up.high))
     columns = max(10, width - margin - 2)
@@ -168,7 +168,7 @@ def draw(wanted):
 
 
 def width(text):
-    """A count of characters that a line may have."""
+    """The width of a line in characters."""
     if not text.isdecimal() or not 1 <= int(text) <= 1000:
         raise argparse.ArgumentTypeError(f"{text!r} is not from 1 to 1000")
     return int(text)

@@ -47,7 +47,7 @@ def number(content):
 
 
 def name_of(field):
-    """The name in a field that has zeros behind it."""
+    """The name in a field that is filled up with zeros."""
     return field.rstrip(b"\0").decode("latin-1")
 
 
@@ -59,7 +59,7 @@ class Flash:
         self.troubles = []
         self._files, self._logs = {}, {}
         if len(content) > MOST:
-            self.troubles.append(f"the image has more than {MOST} bytes, and what is behind them was not read")
+            self.troubles.append(f"the image has more than {MOST} bytes, and the rest was not read")
         elif len(content) % SECTOR or len(content) < 4 * SECTOR:
             self.troubles.append(f"the image has {len(content)} bytes, which are not 4 to 4,095 sectors")
         for extent in self._extents():
@@ -72,7 +72,7 @@ class Flash:
         return set(self._files)
 
     def contents(self, name):
-        """The bytes of a file up to the last that is not zero, as its log has them."""
+        """The bytes of a file up to the last one that is not zero, with the changes in its log."""
         extent = self._files[name]
         contents = bytearray(self._content[extent.page * PAGE + HEADER:(extent.page + extent.pages) * PAGE])
         if extent.flags & LOGGED:
@@ -80,7 +80,7 @@ class Flash:
         return bytes(contents).rstrip(b"\0")
 
     def _extents(self):
-        """What begins with a header, from page 0 on. What is read as nothing is a trouble, and passed over."""
+        """All extents, from page 0 on. Pages that make no sense are reported and skipped."""
         page, pages = 0, len(self._content) // PAGE
         while page < pages:
             content = self._content[page * PAGE:(page + 1) * PAGE]
@@ -110,7 +110,7 @@ class Flash:
             self.troubles.append(f"page {page}: no extent begins there")
 
     def _add(self, extent):
-        """A file that was written anew stands twice until the old one, which may have a log, is obsolete."""
+        """A file that is being rewritten is there twice, until the old one, which may have a log, is obsolete."""
         other = self._files.setdefault(extent.name, extent)
         if other is extent:
             return
@@ -119,7 +119,7 @@ class Flash:
         self.troubles.append(f"there are two files {extent.name}: that at page {other.page} was read")
 
     def _put_log(self, extent, contents):
-        """Puts the records of a file's log over its contents; of one region the last counts."""
+        """Applies the records of a file's log to its contents; of several records of a region the last one counts."""
         log = self._logs.get(extent.log_page - 1)
         if not log or log.name != extent.name:
             self.troubles.append(f"{extent.name}: its log is not there, so that its last changes are missing")
@@ -150,13 +150,13 @@ class Database:
         self.indexes = [index for it in range(SLOTS) if (index := self._index(it, catalog, schemas))]
 
     def _compare(self, wanted):
-        """Tells which files of rows are missing, and which belong to nothing."""
+        """Reports files of rows that are missing, and those that belong to no relation."""
         there = {it for it in self._flash.names() if it != "CAT" and not re.fullmatch("X[0-7]", it)}
         self.troubles += [f"{it}: the rows of a relation are not there" for it in sorted(wanted - there)]
         self.troubles += [f"{it}: the catalog has no relation for this file" for it in sorted(there - wanted)]
 
     def _schema(self, slot, catalog):
-        """The name and the attributes of a relation; None where the slot is not used or cannot be read."""
+        """The name and the attributes of a relation; None if the slot is not used or cannot be read."""
         fields = catalog[slot * RELATION_SLOT:(slot + 1) * RELATION_SLOT]
         if not fields[0]:
             return None
@@ -190,7 +190,7 @@ class Database:
         contents = self._flash.contents(f"T{slot}") if is_read else b""
         width = sum(it.width for it in attributes) + 1
         if len(contents) % width:
-            self.troubles.append(f"{name}: behind the last row are {len(contents) % width} bytes of another")
+            self.troubles.append(f"{name}: after the last row there are {len(contents) % width} bytes of another")
         rows, removed = [], 0
         for at in range(0, len(contents) - width + 1, width):
             mark = contents[at + width - 1]
@@ -206,7 +206,7 @@ class Database:
 
 
 def values_of(fields, attributes):
-    """The values of a row; None for one that cannot be."""
+    """The values of a row; None if its bytes cannot be one."""
     for attribute in attributes:
         field, fields = fields[:attribute.width], fields[attribute.width:]
         if attribute.domain in ("INT", "LONG"):
@@ -223,7 +223,7 @@ def is_name(text):
 
 
 def script(database):
-    """The lines of the script that makes a database anew."""
+    """The lines of the script that makes the database again."""
     for relation in database.relations:
         yield f"CREATE RELATION {relation.name};\n"
         for attribute in relation.attributes:
@@ -245,7 +245,7 @@ def summary(database):
 
 
 def write_csv(database, name, output):
-    """Writes the live rows of a relation, and says whether there is one of that name."""
+    """Writes the live rows of a relation, and returns whether there is one of that name."""
     for relation in database.relations:
         if relation.name == name:
             writer = csv.writer(output, lineterminator="\n")
@@ -256,7 +256,7 @@ def write_csv(database, name, output):
 
 
 def main():
-    # one that is interrupted, or read no further, ends without a word
+    # it ends silently if it is interrupted, or if its reader is gone
     for it in (signal.SIGINT, signal.SIGPIPE):
         signal.signal(it, signal.SIG_DFL)
     parser = tool.parser(__doc__)
@@ -268,7 +268,7 @@ def main():
     try:
         with open(wanted.image, "rb") as file:
             database = Database(file.read(MOST + 1))
-        # closed in here, so that what could not be written is told
+        # closed here, so that a failed write is reported
         with open(1, "w", encoding="ascii", closefd=False) as output:
             if wanted.csv is None:
                 output.writelines(script(database) if wanted.dump else summary(database))

@@ -1,25 +1,26 @@
 #!/usr/bin/env python3
-"""Carries rows from stations into a database that people query at large: each once, and only what is new.
+"""Copies new rows from stations into a large database, each row once.
 
     sorachest-ship station.img --into readings.db
     sorachest-ship north=/dev/ttyUSB0 south=tcp:10.0.0.7:4000 --into postgresql://me@host/readings \\
         --relation 'readings(at TIME, celsius, sky)' --key readings.at
     sorachest-ship north=/dev/ttyUSB0 --relation 'readings(at TIME, celsius)' --into influx: >points
 
-A station is a line, with a name before it if it is to be called otherwise. Each relation becomes a table of its
-name with a column for the station; times become timestamps in PostgreSQL, and stay milliseconds in SQLite. An
-image tells its relations; of other lines name them with --relation, and attributes that are a TIME as such.
+A station is a line, with a name and `=` before it if the station is to have another name. Each relation becomes
+a table of the same name with a column for the station; times become timestamps in PostgreSQL, and stay
+milliseconds in SQLite. The relations of an image are read from it. For other lines name them with --relation,
+with TIME after the attributes that are times.
 
-Where a call left off stands in the target, in the same transaction as the rows: a call that breaks off anywhere
-is made again. With --key the rows from the last key on are read; the key must never fall, as an INLINE index
-has it, and that of an image is taken by itself. Without a key all rows are read, and those that were shipped
-are passed over, as long as none of them is removed.
+The target records how far each relation was shipped, in the same transaction as the rows. So a call that was
+interrupted can simply be repeated. With --key only the rows from the last key on are read. The key must never
+fall, as an INLINE index enforces; the key of an image is found without --key. Without a key all rows are read,
+and the ones already shipped are skipped, which works as long as none of them is removed.
 
-With --remove rows those below the last key are removed from the station once they are in the target; PACK gives
-their space back. With --remove relation a relation whose rows are all in the target is removed whole: name
-those alone into which the station writes no more, as where it writes into relations in turn.
+--remove rows removes the rows below the last key from the station once they are in the target; PACK then frees
+their space. --remove relation removes a relation whose rows are all in the target: name only relations into
+which the station no longer writes.
 
-InfluxDB's lines have no place for where a call left off: --since begins with a key.
+InfluxDB's lines cannot record how far a relation was shipped: --since names the key to begin with.
 """
 import argparse
 import contextlib
@@ -43,7 +44,7 @@ BATCH = 1000
 
 
 class Progress:
-    """A line on standard error, where that is a terminal, that says how far a relation is."""
+    """The progress of a relation, as a line on standard error if that is a terminal."""
 
     def __init__(self, shipment, total):
         self._what = f"{shipment.station} {shipment.relation}"
@@ -63,14 +64,14 @@ class Progress:
 
 
 def station_of(text):
-    """The name of a station and its line: NAME=LINE, or a line that is its own name."""
+    """The name of a station and its line: NAME=LINE, or a line, whose name is then that of the station."""
     found = re.fullmatch(r"([\w.-]+)=(.+)", text, re.DOTALL)
     name, where = found.groups() if found else (text, text)
     if not found and not where.startswith(("run:", "tcp:")):
-        # by another name for the same line all would be shipped twice
+        # under two names for one line everything would be shipped twice
         name = os.path.abspath(where)
     if not name.isprintable():
-        raise argparse.ArgumentTypeError(f"{name!r} is no name for a station")
+        raise argparse.ArgumentTypeError(f"{name!r} cannot be the name of a station")
     return name, where
 
 
@@ -86,31 +87,31 @@ def relations(wanted, told):
     """The relations that are shipped, with the attributes that are named for each."""
     named = [parsed(it) for it in wanted.relation] or [(it, []) for it in told if told[it]]
     if not named:
-        raise Unfit("its relations are not told: name them, as in --relation 'readings(at TIME, celsius)'")
+        raise Unfit("its relations are not known: name them, as in --relation 'readings(at TIME, celsius)'")
     unknown = {it.split(".")[0] for it in wanted.key} - {it for it, _ in named}
     if unknown and wanted.remove != "relation":
-        raise Unfit(f"the key of {min(unknown)} is of no relation that is shipped")
-    # the names of tables are without case
+        raise Unfit(f"--key names {min(unknown)}, which is not shipped")
+    # letter case does not matter in names of tables
     if len({it.casefold() for it, _ in named}) < len(named):
         raise Unfit("two relations would have one table")
     return named
 
 
 def shipment_of(wanted, name, station, relation, attributes, schema, inline):
-    """What is to be shipped of a relation, of which an image tells the schema and an INLINE index."""
+    """What to ship of a relation. An image has its schema, and perhaps an INLINE index on a key."""
     domains = dict(schema)
     attributes = attributes or schema
     if not attributes:
-        raise Unfit(f"its attributes are not told: name them, as in '{relation}(at TIME, celsius)'")
+        raise Unfit(f"its attributes are not known: name them, as in '{relation}(at TIME, celsius)'")
     kinds = {it: domain or domains.get(it, "") for it, domain in attributes}
     key = dict(it.split(".") for it in wanted.key).get(relation) or (inline if inline in kinds else None)
     missing = set(domains) - set(kinds)
     if wanted.remove and missing:
-        raise Unfit(f"--remove wants all attributes of {relation}, and {min(missing)} is not named")
+        raise Unfit(f"--remove needs all attributes of {relation}, and {min(missing)} is not named")
     if wanted.remove and not key:
-        raise Unfit(f"--remove wants a key for {relation}")
+        raise Unfit(f"--remove needs a key for {relation}")
     if key and key not in kinds:
-        raise Unfit(f"the key {relation}.{key} is none of the attributes that are named")
+        raise Unfit(f"the key {relation}.{key} is not one of the named attributes")
     made = [Attribute(it, kind_of(kinds[it]) if kinds[it] else asked_kind(station, relation, it)) for it in kinds]
     if key and dict(made)[key] == "text":
         raise Unfit(f"the key {relation}.{key} is a text")
@@ -118,7 +119,7 @@ def shipment_of(wanted, name, station, relation, attributes, schema, inline):
 
 
 def is_there(station, relation):
-    """Whether a station has a relation: of one that it has not, no attribute is looked for."""
+    """Whether a station has a relation; otherwise its attributes are not looked for."""
     reply = station._reply(f"OPEN 1 SELECT a FROM {relation}")[-1]
     if reply == "ok":
         station._reply("CLOSE 1")
@@ -129,7 +130,7 @@ def is_there(station, relation):
 
 
 def reading_of(wanted, shipment, stored):
-    """What is to be read of a relation, by where it was left off."""
+    """What to read of a relation, by how far it was shipped."""
     place = stored
     if wanted.anew:
         place = BEGINNING._replace(shipped=stored.shipped)
@@ -139,7 +140,7 @@ def reading_of(wanted, shipment, stored):
 
 
 def ship(wanted, shipment, cursor, target):
-    """Ships what is new of a relation, and says how much that was."""
+    """Ships the new rows of a relation, and reports how many."""
     stored = target.place(shipment)
     reading, place = reading_of(wanted, shipment, stored)
     if target.keeps_places:
@@ -167,7 +168,7 @@ def ship(wanted, shipment, cursor, target):
 
 
 def remove(wanted, shipment, cursor, target, stored):
-    """Removes what is in the target from the station, and returns the place as it is then."""
+    """Removes from the station what is in the target, and returns the new place."""
     call = remove_rows if wanted.remove == "rows" else remove_relation
     place = call(cursor, shipment, stored)
     if place is None:
@@ -179,23 +180,23 @@ def remove(wanted, shipment, cursor, target, stored):
 
 
 def plan(wanted, shipment, cursor, target):
-    """Says what would be shipped of a relation."""
+    """Prints what would be shipped of a relation."""
     stored = target.place(shipment)
     reading, place = reading_of(wanted, shipment, stored)
     if target.keeps_places:
         look_below(cursor, shipment, place)
     new = count(cursor, reading.counting) - place.seen
     since = f"by {shipment.key}" if shipment.key else "by count"
-    since += f" from {place.key}" if place.key is not None else f" behind {place.seen:,}" if place.seen else ""
+    since += f" from {place.key}" if place.key is not None else f" after {place.seen:,}" if place.seen else ""
     names = ", ".join(f"{it.name} {it.kind}" for it in shipment.attributes)
     print(f"{shipment.station} {shipment.relation} ({names}): {max(0, new):,} rows {since}", flush=True)
 
 
 def visit(wanted, name, where, target):
-    """Ships from a station; one relation that does not fit keeps no other from it. Returns the status."""
+    """Ships from a station, also if one of its relations cannot be shipped. Returns the status."""
     status, call = 0, plan if wanted.plan else ship
     kind = kind_of_line(where)
-    # a line that others share is held for no longer than a row takes
+    # a shared line is held only as long as a row takes
     how = {"client": wanted.client, "speed": wanted.speed, "timeout": wanted.timeout, "whole": kind in ("image", "run")}
     with connect(where, **how) as station:
         told, inline = schemas(where) if kind == "image" else ({}, {})
@@ -214,7 +215,7 @@ def visit(wanted, name, where, target):
 
 
 def ship_all(wanted):
-    """Ships from each station; one that cannot be reached keeps no other from it."""
+    """Ships from each station, also if one of them cannot be reached."""
     target = open_target(wanted.into, wanted.plan)
     if wanted.remove and not target.keeps_places:
         raise Unfit("of InfluxDB it is not known whether the rows are there: nothing is removed")
@@ -238,13 +239,13 @@ def ship_all(wanted):
 
 def key_of(text):
     if not re.fullmatch(r"\w+\.\w+", text):
-        raise argparse.ArgumentTypeError(f"{text!r} is no RELATION.ATTRIBUTE")
+        raise argparse.ArgumentTypeError(f"{text!r} is not RELATION.ATTRIBUTE")
     return text
 
 
 def batch(text):
     if not re.fullmatch("[1-9][0-9]{0,5}", text):
-        raise argparse.ArgumentTypeError(f"{text!r} is no number of rows")
+        raise argparse.ArgumentTypeError(f"{text!r} is not a number of rows")
     return int(text)
 
 

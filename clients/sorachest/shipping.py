@@ -1,4 +1,4 @@
-"""What is shipped of a station, and where it was left off.
+"""What is shipped of a station, and how far.
 
 A `Place` stands in the target, in the same transaction as the rows before it. It says which rows of an answer
 are in the target already: the first `seen` ones, whose digest is kept, of all rows, or of those from the last
@@ -28,21 +28,21 @@ CHANGED = (
 
 
 class Unfit(Exception):
-    """Something cannot be shipped as it is asked for."""
+    """Something cannot be shipped in this way."""
 
 
 def parsed(text):
-    """The name of a relation, and its attributes with their domains where both are given: `r(at TIME, v)`."""
+    """The name of a relation, and its attributes with their domains, if both are given: `r(at TIME, v)`."""
     found = re.fullmatch(r"\s*(\w+)\s*(?:\((.*)\))?\s*", text, re.DOTALL)
     if not found:
-        raise Unfit(f"{text!r} names no relation, as 'readings(at TIME, celsius)' does")
+        raise Unfit(f"{text!r} does not name a relation, as in 'readings(at TIME, celsius)'")
     attributes = []
     for part in found[2].split(",") if found[2] else ():
         name, _, domain = part.strip().partition(" ")
         domain = "".join(domain.split()).upper()
         is_domain = domain in ("", *DOMAINS) or re.fullmatch(r"STRING(\(\d+\))?", domain)
         if not is_domain or not re.fullmatch(r"\w+", name):
-            raise Unfit(f"{part.strip()!r} is no attribute with a domain, as 'at TIME' is")
+            raise Unfit(f"{part.strip()!r} is not an attribute with a domain, as 'at TIME' is")
         attributes.append((name, domain))
     return found[1], attributes
 
@@ -52,7 +52,7 @@ def kind_of(domain):
 
 
 def asked_kind(station, relation, name):
-    """Whether an attribute's values are numbers or texts, which the station tells without a look at its rows."""
+    """Whether an attribute's values are numbers or texts, which the station answers without reading rows."""
     reply = station._reply(f"OPEN 1 SELECT {name} FROM {relation} WHERE {name} = ''")[-1]
     if reply == "ok":
         station._reply("CLOSE 1")
@@ -62,7 +62,7 @@ def asked_kind(station, relation, name):
 
 
 class Reading:
-    """The rows of a relation that are not yet in the target, and the place behind those that were taken."""
+    """The rows of a relation that are not yet in the target, and the place after those that were taken."""
 
     def __init__(self, shipment, place):
         if place.by and place.by != shipment.key:
@@ -81,7 +81,7 @@ class Reading:
         return Place(self._by, self._key, self._seen, self._digest.hexdigest(), self._shipped, self._standing)
 
     def batches(self, rows, most):
-        """Lists of at most so many rows that are new."""
+        """The new rows, in lists of at most this many."""
         batch = []
         for row in self._behind_the_shipped(iter(rows)):
             if self._at is not None and self._key is not None and row[self._at] < self._key:
@@ -99,7 +99,7 @@ class Reading:
             yield batch
 
     def _behind_the_shipped(self, rows):
-        """The rows behind those that were shipped; all of them, if those with the last key were removed since."""
+        """The rows after those that were shipped; all of them, if those with the last key were removed since."""
         old, whole = self._old, hashlib.sha256()
         first = list(itertools.islice(rows, 1))
         rows = itertools.chain(first, rows)
@@ -115,7 +115,7 @@ class Reading:
         yield from rows
 
     def _count(self, row):
-        """Takes a row into the place: of a key only the rows with the last one count."""
+        """Moves the place over a row: with a key, only the rows with the last key are counted."""
         key = None if self._at is None else row[self._at]
         if key != self._key:
             self._key, self._seen, self._digest = key, 0, hashlib.sha256()
@@ -132,7 +132,7 @@ def count(cursor, query):
 
 
 def look_below(cursor, shipment, place):
-    """Refuses a key below which rows stand that were not shipped, since it has fallen."""
+    """Refuses a key if there are rows with lower keys that were not shipped: it has fallen."""
     if place.key is None:
         return
     below = f"SELECT COUNT({shipment.key}) FROM {shipment.relation} WHERE {shipment.key} < {place.key}"
@@ -143,7 +143,7 @@ def look_below(cursor, shipment, place):
 
 
 def remove_rows(cursor, shipment, place):
-    """Removes the rows below the last key, and returns the place with those that stand.
+    """Removes the rows below the last key, and returns the place among those that are left.
 
     Rows with the last key stay: others with it may have come since.
     """
@@ -153,15 +153,15 @@ def remove_rows(cursor, shipment, place):
 
 
 def remove_relation(cursor, shipment, place):
-    """Removes a relation whose rows are all shipped, and returns the place in an empty one; None if it has others."""
+    """Removes a relation whose rows are all shipped, and returns the place in an empty one; None if there are others."""
     look_below(cursor, shipment, place)
     counting = f"SELECT COUNT({shipment.key}) FROM {shipment.relation} WHERE {shipment.key} >= {place.key}"
     if count(cursor, counting) > place.seen:
         return None
-    # a relation with an index is not removed
+    # a relation with an index cannot be removed
     for attribute in shipment.attributes:
         reply = cursor.connection._reply(f"REMOVE INDEX {shipment.relation}.{attribute.name}")[-1]
         if reply not in ("ok", "no index"):
-            raise Unfit(f"the index of {shipment.relation}.{attribute.name} is not removed: {reply}")
+            raise Unfit(f"the index of {shipment.relation}.{attribute.name} could not be removed: {reply}")
     cursor.execute(f"REMOVE RELATION {shipment.relation}")
     return place._replace(seen=0, digest=NOTHING, standing=0)

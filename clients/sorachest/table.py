@@ -7,13 +7,13 @@
     sorachest-csv in readings.csv readings --parts readings    (readings-001.aql, readings-002.aql ..)
     sorachest-csv in readings.csv readings --line /dev/ttyUSB0
 
-The first line of a CSV names its columns, which stand in the order of the relation's attributes. Without
---domains they are guessed, and told at a terminal: INT, LONG or TIME for whole numbers, TIME for ISO times such
-as '2026-01-01 00:10', which become milliseconds since 1970 (of UTC if they name no zone), and STRING else. A
-decimal becomes a whole number by --scale: 21.5 by 10 is 215.
+The first line of a CSV names its columns, in the order of the relation's attributes. Without --domains the
+domains are guessed, and shown at a terminal: INT, LONG or TIME for whole numbers, TIME for ISO times such as
+'2026-01-01 00:10', which become milliseconds since 1970 (UTC if they name no zone), and STRING otherwise. --scale
+makes a decimal a whole number: with --scale 10, 21.5 becomes 215.
 
-If a value cannot be written in AQL its line is told, and nothing is written. --dry-run tells all of them, and
-what the columns are. What an image holds comes as CSV from sorachest-reader, without a station.
+If a value cannot be written in AQL, its line is reported and nothing is written. --dry-run reports all such
+values, and shows the columns. sorachest-reader prints the rows of an image as CSV without a station.
 """
 import argparse
 import csv
@@ -40,14 +40,14 @@ KEYWORDS = (
 
 
 def separator(text):
-    """What may stand between values."""
+    """The separator of values."""
     if len(text) != 1 or text in '"\r\n':
-        raise argparse.ArgumentTypeError(f"{text!r} is not one character that can stand between values")
+        raise argparse.ArgumentTypeError(f"{text!r} is not a character that can separate values")
     return text
 
 
 def is_name(text):
-    """Whether a relation or an attribute may be called so."""
+    """Whether this can be the name of a relation or an attribute."""
     return bool(re.fullmatch(NAME, text)) and text.upper() not in KEYWORDS
 
 
@@ -80,7 +80,7 @@ def by_column(texts, names):
 
 def number_in(text):
     if not re.fullmatch("-?[0-9]{1,18}", text):
-        raise Unfit(f"{text!r} is no whole number")
+        raise Unfit(f"{text!r} is not a whole number")
     return int(text)
 
 
@@ -102,7 +102,7 @@ def columns_of(wanted, names, rows):
 
 
 def rows_to_put(columns, rows):
-    """The rows but for those that are left out for a blank in them."""
+    """The rows, without those that are skipped for a blank."""
 
     def is_left_out(row):
         return any(it.is_skipped and it.is_blank(cell) for it, cell in zip(columns, row))
@@ -130,7 +130,7 @@ def creations(relation, columns):
     names = [it.name for it in columns]
     for at, name in enumerate(names):
         if not is_name(name):
-            raise Unfit(f"{name!r} is no name in AQL")
+            raise Unfit(f"{name!r} is not a name in AQL")
         if name in names[:at]:
             raise Unfit(f"two columns are called {name}")
     yield f"CREATE RELATION {relation};\n"
@@ -139,22 +139,22 @@ def creations(relation, columns):
 
 
 def table_of(wanted):
-    """The columns of the CSV, and the rows that go in."""
+    """The columns of the CSV, and the rows to insert."""
     if not is_name(wanted.relation):
-        raise Unfit(f"{wanted.relation!r} is no name in AQL")
+        raise Unfit(f"{wanted.relation!r} is not a name in AQL")
     names, rows = read_table(wanted.csv, wanted.delimiter)
     columns = columns_of(wanted, names, rows)
     return columns, rows_to_put(columns, rows), len(rows)
 
 
 def commands(wanted, columns, rows):
-    """The commands that a CSV comes to, a line each."""
+    """The commands for a CSV, a line each."""
     created = creations(wanted.relation, columns) if wanted.create else ()
     return [*created, *inserts(wanted.relation, columns, rows)]
 
 
 def describe(columns):
-    """A line for each column: its domain, and what was made of its cells."""
+    """A line for each column: its domain, and how its cells are read."""
     for it in columns:
         guess = " (guessed)" if it.is_guessed else ""
         scale = f", times {it.scale}" if it.scale != 1 else ""
@@ -163,7 +163,7 @@ def describe(columns):
 
 
 def try_out(wanted, columns, rows, count):
-    """Tells what would be done, and each line that is in the way."""
+    """Prints what would be done, and each line that cannot be inserted."""
     sys.stdout.writelines(describe(columns))
     list(creations(wanted.relation, columns) if wanted.create else ())
     troubles, size = [], 0
@@ -180,7 +180,7 @@ def try_out(wanted, columns, rows, count):
 
 
 def parts(lines, most):
-    """The lines in texts of at most so many bytes."""
+    """The lines in texts of at most this many bytes."""
     part, size = [], 0
     for line in lines:
         if part and size + len(line) > most:
@@ -196,7 +196,7 @@ def parts(lines, most):
 
 
 def send(lines, wanted):
-    """Has a station carry out commands up to the first that it refuses."""
+    """Sends commands to a station up to the first that it refuses."""
     with connect(wanted.line, speed=wanted.speed, timeout=wanted.timeout) as station:
         cursor = station.cursor()
         for done, line in enumerate(lines):
@@ -221,7 +221,7 @@ def put_in(wanted):
             with open(f"{wanted.parts}-{at:03}.aql", "w", encoding="ascii") as file:
                 file.write(part)
     elif sum(map(len, lines)) > wanted.most:
-        raise Unfit(f"the script has more than {wanted.most} bytes, which one run does not take: use --parts")
+        raise Unfit(f"the script has more than {wanted.most} bytes, too many for one run: use --parts")
     else:
         sys.stdout.writelines(lines)
     return 0

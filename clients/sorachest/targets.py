@@ -21,7 +21,7 @@ PLACES_TABLE = (
     "PRIMARY KEY (station, relation))"
 )
 OTHERS = "another call has shipped of it meanwhile"
-# the last time that InfluxDB's nanoseconds tell, in milliseconds
+# the last time that InfluxDB can have, in milliseconds
 LAST_TIME = 2**63 // 10**6 - 1
 
 
@@ -37,7 +37,7 @@ def table(shipment, types):
 
 
 class Sqlite:
-    """A file of SQLite. Times stay the numbers that they are."""
+    """A file of SQLite. Times stay numbers."""
 
     TYPES = {"number": "INTEGER", "time": "INTEGER", "text": "TEXT"}
     keeps_places = True
@@ -47,11 +47,11 @@ class Sqlite:
             path = f"{pathlib.Path(path).absolute().as_uri()}?mode=ro" if os.path.exists(path) else ":memory:"
         self._base = sqlite3.connect(path, timeout=60, isolation_level=None, uri=is_plan)
         if not is_plan:
-            # what is removed from a station must stand here whatever happens
+            # rows that are removed from a station must be on the disk here
             self._base.execute("PRAGMA synchronous = FULL")
 
     def place(self, shipment):
-        """Where the relation was left off."""
+        """How far the relation was shipped."""
         if not self._base.execute("SELECT 1 FROM sqlite_master WHERE name = ?", (PLACES,)).fetchone():
             return BEGINNING
         which = f"SELECT {', '.join(COLUMNS)} FROM {PLACES} WHERE station = ? AND relation = ?"
@@ -59,7 +59,7 @@ class Sqlite:
         return Place(*found) if found else BEGINNING
 
     def put(self, shipment, rows, old, new):
-        """Takes rows, and the place behind them, if the old one still stands."""
+        """Stores rows and the place after them, if the old place is still there."""
         self._base.execute("BEGIN IMMEDIATE")
         try:
             self._move(shipment, old, new)
@@ -90,14 +90,14 @@ class Sqlite:
 
 
 def quoted(value):
-    """A value as SQL writes it."""
+    """A value in SQL."""
     if value is None:
         return "NULL"
     return str(value) if isinstance(value, int) else "'" + value.replace("'", "''") + "'"
 
 
 def copied(value, kind="text"):
-    """A value as COPY reads it."""
+    """A value in the format of COPY."""
     if kind == "time":
         return datetime_of(value).isoformat(" ", "milliseconds")
     if isinstance(value, int):
@@ -107,14 +107,14 @@ def copied(value, kind="text"):
     return value
 
 
-# quotes are doubled and backslashes are not; what is committed is on the disk
+# quotes are doubled and backslashes are not; a commit waits for the disk
 SETTINGS = (
     "SET client_min_messages = warning;\nSET standard_conforming_strings = on;\nSET synchronous_commit = on;\n"
 )
 
 
 class Postgres:
-    """A database of PostgreSQL, which psql speaks to. Times become timestamps with a time zone."""
+    """A database of PostgreSQL, by way of psql. Times become timestamps with a time zone."""
 
     TYPES = {"number": "BIGINT", "time": "TIMESTAMPTZ", "text": "TEXT"}
     keeps_places = True
@@ -132,7 +132,7 @@ class Postgres:
         return Place(by, int(key) if key else None, int(seen), digest, int(shipped), int(standing))
 
     def put(self, shipment, rows, old, new):
-        """Takes rows, and the place behind them, if the old one still stands.
+        """Stores rows and the place after them, if the old place is still there.
 
         All is one script, which ends with COMMIT: if this process is killed, psql reads its front alone, and
         the server rolls back.
@@ -146,7 +146,7 @@ class Postgres:
             "BEGIN;\n",
             f"{PLACES_TABLE};\nINSERT INTO {PLACES} VALUES ({key}, {beginning}) ON CONFLICT DO NOTHING;\n",
             f"WITH moved AS ({move}) SELECT count(*) = 1 AS is_moved FROM moved \\gset\n",
-            # rows do not stand in a branch: one that is not taken would be read as commands
+            # rows are outside of branches: in one that is not taken psql would read them as commands
             "\\if :is_moved\n\\else\n\\q\n\\endif\n",
             *(self._copy(shipment, rows) if rows else ()),
             "COMMIT;\n\\echo shipped\n",
@@ -202,11 +202,11 @@ class Influx:
         sys.stdout.flush()
 
     def close(self):
-        """Does nothing: what was written is flushed."""
+        """Does nothing: everything written was flushed."""
 
     def _point(self, shipment, row, at):
         if row[at] > LAST_TIME:
-            raise Unfit(f"InfluxDB has no time {row[at]}")
+            raise Unfit(f"InfluxDB cannot store the time {row[at]}")
         names = [it.name for it in shipment.attributes]
         fields = ",".join(f"{name}={field(it)}" for name, it in zip(names, row) if name != names[at])
         place = shipment.station, shipment.relation, row[at]
@@ -216,7 +216,7 @@ class Influx:
 
 
 def tag(text):
-    """A tag's value, with a backslash before what would end it."""
+    """A tag's value, with a backslash before each character that would end it."""
     return "".join(f"\\{it}" if it in ",= \\" else it for it in text)
 
 
@@ -227,13 +227,13 @@ def field(value):
 
 
 def open_target(name, is_plan):
-    """The target that a name means."""
+    """The target of this name."""
     if name == "influx:":
         return Influx()
     if name.startswith(("postgresql:", "postgres:")):
         is_uri = name.partition(":")[2].startswith("//")
         return Postgres(name if is_uri else name.partition(":")[2])
     if name in ("", ":memory:"):
-        # rows that are there only until this ends would be taken for shipped
-        raise Unfit(f"{name!r} is no file")
+        # rows in a temporary database would count as shipped although they are lost
+        raise Unfit(f"{name!r} is not a file")
     return Sqlite(name, is_plan)

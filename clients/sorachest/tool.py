@@ -1,4 +1,4 @@
-"""What the tools share: how they name a line, and how they end.
+"""What the tools share: their arguments for a line, and how they end.
 
 A tool ends with a status, and if something went wrong with a line on standard error that says what.
 """
@@ -18,7 +18,7 @@ def parser(description):
 
 
 def add_line(parser, word="line", **how):
-    """The arguments that say which line is meant, and how it is spoken on."""
+    """The arguments for a line."""
     text = "an image, a port's or a socket's path, tcp:HOST:PORT, or run:COMMAND"
     parser.add_argument(word, help=text, **how)
     parser.add_argument("--speed", type=int, help="bits a second of a port (its current setting)")
@@ -32,19 +32,19 @@ def name():
 
 
 def end_by(number):
-    """Ends this process as a signal does that nobody waits for."""
+    """Ends this process as an unhandled signal does."""
     signal.signal(number, signal.SIG_DFL)
     signal.raise_signal(number)
 
 
 def run(work, *errors):
-    """Does a tool's work and returns its status: what the work returns, 0 for nothing, and 1 if it went wrong.
+    """Does a tool's work and returns its status: what the work returns, 0 if that is None, and 1 if it failed.
 
     A tool that is interrupted, or whose output nobody reads any more, ends by that signal without a word, once
     its work has let go of its line.
     """
     try:
-        # closed in here, so that what could not be written is told
+        # closed here, so that a failed write is reported
         with open(1, "w", encoding="utf-8", closefd=False) as output, contextlib.redirect_stdout(output):
             return work() or 0
     except KeyboardInterrupt:

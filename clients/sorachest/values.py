@@ -1,4 +1,4 @@
-"""Values, commands and rows as AQL and its replies write them."""
+"""Values, commands and rows in AQL and in its replies."""
 import collections
 import datetime
 import operator
@@ -16,7 +16,7 @@ MILLISECOND = datetime.timedelta(milliseconds=1)
 
 
 class TypeObject:
-    """What a type code in a description may be."""
+    """A type code of a description."""
 
     def __init__(self, name):
         self._name = name
@@ -27,29 +27,29 @@ class TypeObject:
 
 STRING, NUMBER, DATETIME = TypeObject("STRING"), TypeObject("NUMBER"), TypeObject("DATETIME")
 TYPES = {str: STRING, int: NUMBER, datetime.datetime: DATETIME}
-# no attribute has one of these
+# no attribute has one of these types
 BINARY, ROWID = TypeObject("BINARY"), TypeObject("ROWID")
 
 Date, Timestamp = datetime.date, datetime.datetime
 
 
 def TimestampFromTicks(ticks):
-    """The time that is so many seconds after the beginning of 1970, UTC."""
+    """The time this many seconds after the beginning of 1970, UTC."""
     return EPOCH + datetime.timedelta(seconds=ticks)
 
 
 def DateFromTicks(ticks):
-    """The day of that time."""
+    """The day of that time, UTC."""
     return TimestampFromTicks(ticks).date()
 
 
 def Binary(*_):
-    """Makes no value: AQL has numbers and texts."""
+    """Not supported: AQL has only numbers and texts."""
     raise NotSupportedError("AQL has no binary values")
 
 
 def Time(*_):
-    """Makes no value: a TIME of AQL has a day."""
+    """Not supported: a TIME of AQL has a day."""
     raise NotSupportedError("AQL has no times without a day")
 
 
@@ -57,7 +57,7 @@ TimeFromTicks = Time
 
 
 def milliseconds(time):
-    """The milliseconds since 1970 of a date or a datetime, which is of UTC if it names no zone.
+    """The milliseconds since 1970 of a date or a datetime, which is UTC if it names no zone.
 
     What is less than a millisecond is cut off.
     """
@@ -68,17 +68,17 @@ def milliseconds(time):
 
 
 def datetime_of(number):
-    """The datetime, of UTC, that is so many milliseconds after the beginning of 1970."""
+    """The datetime, in UTC, this many milliseconds after the beginning of 1970."""
     return EPOCH + number * MILLISECOND
 
 
 def literal(value):
     """A value as AQL writes it."""
     if isinstance(value, str):
-        # its own characters: an enumeration of texts would write its member's name
+        # the str's own characters: formatting a member of a str enumeration would give its name
         text = str.__str__(value)
         if len(text) > MOST_TEXT or not re.fullmatch(TEXT, text):
-            raise DataError(f"{text!r:.80} is no text of AQL: {MOST_TEXT} characters of ASCII at most, and no quote")
+            raise DataError(f"{text!r:.80} is not a text of AQL: {MOST_TEXT} characters of ASCII at most, and no quote")
         return f"'{text}'"
     if isinstance(value, datetime.date):
         return str(milliseconds(value))
@@ -94,7 +94,7 @@ def literal(value):
 
 
 def row_text(values):
-    """A row as a reply has it."""
+    """A row in the format of a reply."""
     return ",".join("-" if it is None else literal(it) for it in values)
 
 
@@ -102,12 +102,12 @@ def row_of(text):
     """The values of a row in a reply."""
     found = list(VALUE.finditer(text))
     if not found or ",".join(it[0] for it in found) != text:
-        raise OperationalError(f"{text!r:.100} came, which is no row")
+        raise OperationalError(f"{text!r:.100} came, which is not a row")
     return tuple(int(it[2]) if it[2] else it[1] for it in found)
 
 
 def bind(operation, parameters=()):
-    """A command with values in the places of its `?`, but for those in quotes."""
+    """A command with values in place of each `?` outside of quotes."""
     parameters = () if parameters is None else parameters
     if isinstance(parameters, (str, bytes, Mapping)) or not isinstance(parameters, Iterable):
         raise ProgrammingError(f"{parameters!r:.80}: parameters are a sequence of values, as (5,) is")
@@ -128,7 +128,7 @@ def bind(operation, parameters=()):
 
 
 def columns(command):
-    """The names in a query's list and whether they are aggregates; no names for another command."""
+    """The names in a query's list, and whether they are aggregates; no names if the command is not a query."""
     found = re.match(r"SELECT\b(.*?)\bFROM\b", command, re.IGNORECASE | re.DOTALL)
     found = found or re.match(r"JOIN\b.*?\bPROJECT\b(.*)", command, re.IGNORECASE | re.DOTALL)
     if not found:

@@ -1,4 +1,4 @@
-"""Ways to the other end of a line: how each is opened, where its bytes come from and go to, and how it ends.
+"""Ways to the other end of a line: how each is opened, read, written and closed.
 
 A line is named in one of these ways:
 
@@ -21,16 +21,16 @@ import time
 import tty
 
 TIMEOUT = 10.0
-# the program that is started on an image, where the environment names one
+# the environment variable that names the program for images
 PROGRAM = "SORACHEST_PROGRAM"
 
 
 class LineFailed(Exception):
-    """A line could not be opened, or a reply did not come."""
+    """A line could not be opened, or a reply did not arrive."""
 
 
 class LineClosed(LineFailed):
-    """No reply can come any more."""
+    """The line was closed: no reply can arrive any more."""
 
 
 class Way:
@@ -44,7 +44,7 @@ class Way:
         self.close = close
 
     def ending(self):
-        """What is known of why the other end is gone."""
+        """Why the other end is gone, as far as known."""
         return ""
 
 
@@ -57,7 +57,7 @@ class Program(Way):
         if not words:
             raise LineFailed("no program is named")
         pipes = {"stdin": subprocess.PIPE, "stdout": subprocess.PIPE, "bufsize": 0}
-        # a signal from the terminal is not for it: it could break off a write
+        # it gets no signals of the terminal, which could interrupt a write
         self._program = subprocess.Popen(words, start_new_session=True, **pipes)
         self._words = words
         for pipe in (self._program.stdin, self._program.stdout):
@@ -79,7 +79,7 @@ class Program(Way):
     def _close(self):
         self._program.stdin.close()
         self._program.stdout.close()
-        # it ends with its input, once it has done what it was asked
+        # it ends when its input ends, after the commands that it has received
         try:
             self._program.wait(TIMEOUT)
         except subprocess.TimeoutExpired:
@@ -95,18 +95,18 @@ def lock(port, deadline):
             return
         except BlockingIOError:
             if time.monotonic() > deadline:
-                raise LineFailed("another program reads it; a hub would let both") from None
+                raise LineFailed("another program reads it; a hub would serve both") from None
         time.sleep(0.02)
 
 
 def set_raw(port, speed):
-    """Lets bytes come and go unchanged, at so many bits a second."""
+    """Sets a port to raw bytes, and to this speed."""
     tty.setraw(port, termios.TCSANOW)
     settings = termios.tcgetattr(port)
     settings[2] |= termios.CLOCAL | termios.CREAD
     if speed:
         if not hasattr(termios, f"B{speed}"):
-            raise LineFailed(f"no port has {speed} bits a second")
+            raise LineFailed(f"ports do not have a speed of {speed} bits a second")
         settings[4] = settings[5] = getattr(termios, f"B{speed}")
     termios.tcsetattr(port, termios.TCSANOW, settings)
 
@@ -115,7 +115,7 @@ def open_port(path, speed, seconds):
     port = os.open(path, os.O_RDWR | os.O_NOCTTY | os.O_NONBLOCK)
     try:
         if not os.isatty(port):
-            raise LineFailed("it is no port, no socket and no image")
+            raise LineFailed("it is not a port, a socket or an image")
         lock(port, time.monotonic() + seconds)
         set_raw(port, speed)
     except BaseException:
@@ -143,12 +143,12 @@ def open_unix(path, seconds):
 def open_tcp(address, seconds):
     host, _, port = address.rpartition(":")
     if not host or not re.fullmatch("[0-9]{1,5}", port):
-        raise LineFailed("a host and the number of a port are named as in tcp:HOST:PORT")
+        raise LineFailed("a TCP line is written tcp:HOST:PORT")
     return open_socket(socket.create_connection((host.strip("[]"), int(port)), seconds))
 
 
 def program():
-    """The program for images: that of the environment, else the clone's launcher, else one on the path."""
+    """The program for images: the one that the environment names, or the clone's launcher, or one on the path."""
     folder = os.path.dirname(os.path.dirname(os.path.dirname(os.path.realpath(__file__))))
     beside = os.path.join(folder, "antelope")
     if os.environ.get(PROGRAM):
@@ -162,7 +162,7 @@ def program():
 
 
 def kind_of(where):
-    """What a line is: `run`, `tcp`, `socket`, `image` or `port`."""
+    """The kind of a line: `run`, `tcp`, `socket`, `image` or `port`."""
     kind = where.partition(":")[0]
     if kind in ("run", "tcp"):
         return kind
@@ -173,7 +173,7 @@ def kind_of(where):
 
 
 def open_way(where, speed, seconds):
-    """The way to a line, as it is named."""
+    """The way to a line of this name."""
     kind = kind_of(where)
     if kind == "run":
         return Program(shlex.split(where[len("run:"):]))

@@ -3,7 +3,7 @@
 #include <stddef.h>
 #include <stdint.h>
 
-/* Since power on; it begins anew behind the last number. */
+/* Since power on; after the largest number it starts again at 0. */
 uint32_t board_milliseconds(void);
 
 /* The next byte of the serial line, or that none has come. It does not wait. */

@@ -1,7 +1,7 @@
-/* A logger, as a firmware has it: a timer stores a reading, and a shell on the serial line asks meanwhile.
+/* A logger as a firmware: a timer stores readings, and meanwhile a shell on the serial line answers queries.
  *
- * A line is a command of AQL, and is answered as `antelope run` does; `?` tells how much memory the database used. board.h is
- * what a board gives: board_host.c has it on a computer, board_qemu.c on boards of qemu.
+ * A line is a command of AQL, and is answered as by `antelope run`; `?` prints how much memory the database used. board.h has
+ * what a board provides: board_host.c does so on a computer, board_qemu.c on boards of qemu.
  */
 #include "../sorachest_node.h"
 #include "board.h"
@@ -10,7 +10,7 @@
 #ifndef LOGGER_EVERY
 #define LOGGER_EVERY 1000
 #endif
-/* Interrupts that take the database's stack, as on a Cortex-M without an operating system, want more. */
+/* Interrupts that use the database's stack, as on a Cortex-M without an operating system, need more. */
 #ifndef LOGGER_MEMORY
 #define LOGGER_MEMORY (SORACHEST_MEMORY + 1024)
 #endif
@@ -20,7 +20,7 @@ static struct sorachest_config config;
 static struct sorachest db;
 static int64_t next_reading;
 
-/* ---- The flash: sorachest_node.h says what each owes */
+/* ---- The flash: sorachest_node.h says what each function must do */
 
 static int flash_read(const struct sorachest_config *of, uint32_t sector, uint32_t at, void *into, size_t count) {
     (void)of;
@@ -65,7 +65,7 @@ static int say_row(void *context, const struct sorachest *of) {
 
 /* ---- The database */
 
-/* Opens the flash, and puts right before what a power cut left. */
+/* Opens the flash, after a repair if a power cut made that necessary. */
 static int open_database(void) {
     int status = sorachest_open(&db, &config);
     if (status == SORACHEST_NOT_SOUND) {
@@ -77,7 +77,7 @@ static int open_database(void) {
     return status == SORACHEST_OK;
 }
 
-/* Makes what is not there yet: the power may have gone between two of these commands. */
+/* Creates what does not exist yet: the power may have failed between two of these commands. */
 static int make_relation(void) {
     static const char *const commands[] = {
         "CREATE RELATION readings",
@@ -92,7 +92,7 @@ static int make_relation(void) {
     return 1;
 }
 
-/* The reading behind the last one that is there. */
+/* The number after that of the last reading. */
 static int find_next_reading(void) {
     if (sorachest_query(&db, "SELECT MAX(number) FROM readings") != SORACHEST_OK) return 0;
     next_reading = 0;
@@ -102,7 +102,7 @@ static int find_next_reading(void) {
 
 static int begin(void) { return open_database() && make_relation() && find_next_reading(); }
 
-/* A sensor stands here. */
+/* Replace this by a sensor. */
 static int measure(void) { return (int)(18 + next_reading * 7 % 5); }
 
 static void store(void) {
@@ -131,7 +131,7 @@ static void answer(const char *line) {
     if (status == SORACHEST_FLASH) begin();
 }
 
-/* A byte of a line, which is answered when it is whole. */
+/* Takes a byte of a line, and answers the line when it is complete. */
 static void take(int byte) {
     static char line[SORACHEST_MOST_COMMAND + 1];
     static size_t length;

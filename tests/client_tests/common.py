@@ -23,7 +23,7 @@ ROWS = [(5, "abc"), (-1, ""), (7, "it?,-")]
 
 
 class Skipped(Exception):
-    """The machine has not what a test is about."""
+    """The machine lacks what a test needs."""
 
 
 def same(got, wanted, what):

@@ -102,7 +102,7 @@ def is_refused(cursor):
 
 
 def hub_says(link, frames, count):
-    """Sends bytes to a hub, and reads so many replies."""
+    """Sends bytes to a hub, and reads this many replies."""
     link.sendall(frames)
     came = b""
     while came.count(b"\xc0") < count:
@@ -134,7 +134,7 @@ def test_noise_on_the_line_of_a_hub_costs_no_command():
             for pause in (0, 0.02):
                 os.write(noisy, noise)
                 time.sleep(pause)
-                same(cursor.execute("SELECT k, t FROM s").fetchall(), ROWS, f"rows behind {noise}")
+                same(cursor.execute("SELECT k, t FROM s").fetchall(), ROWS, f"rows after {noise}")
         os.close(noisy)
 
 

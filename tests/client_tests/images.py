@@ -70,7 +70,7 @@ def test_rows_of_killed_runs_are_read():
 
 
 def killed(image, count):
-    """Kills a run of INSERTs once it has answered so many; how many it had answered then."""
+    """Kills a run of INSERTs once it has answered this many; returns how many it had answered."""
     pipes = {"stdin": subprocess.PIPE, "stdout": subprocess.PIPE}
     with subprocess.Popen([PROGRAM, "run", image, "-"], **pipes) as begun:
         feeder = threading.Thread(target=feed, args=(begun.stdin,))
@@ -89,7 +89,7 @@ def feed(stdin):
 
 
 def test_what_cannot_be_read_is_told():
-    # CAT has 6 pages, and T0 stands behind it; the catalog's last changes are in its log
+    # CAT has 6 pages, and T0 stands after it; the catalog's last changes are in its log
     made("image", SENSORS)
     whole = read("image")
     rows = whole.index(b"\5\0\0\0abc")
@@ -100,7 +100,7 @@ def test_what_cannot_be_read_is_told():
         ({0x1000 * 200: 77}, "page 3200: no extent begins there", 3),
         ({rows + 9: 9}, "the row in slot 0 cannot be read", 2),
         ({rows + 5: 0xFC}, "the row in slot 0 cannot be read", 2),
-        ({rows + 30: 1}, "behind the last row are 1 bytes of another", 3),
+        ({rows + 30: 1}, "after the last row there are 1 bytes of another", 3),
         ({attribute + 16: 9}, "its schema cannot be read", 0),
         ({32 + 1408: 7}, "index 0: it cannot be read", 3),
     ):

@@ -32,7 +32,7 @@ def test_rows_are_fetched_in_each_way():
             cursor = line.cursor()
             query = "SELECT k, t FROM s"
             same(cursor.execute(query).fetchall(), ROWS, "fetchall")
-            same((cursor.fetchall(), cursor.fetchmany(2), cursor.fetchone()), ([], [], None), "behind the last")
+            same((cursor.fetchall(), cursor.fetchmany(2), cursor.fetchone()), ([], [], None), "after the last")
             same([*cursor.execute(query)], ROWS, "the iteration")
             cursor.execute(query)
             same([cursor.fetchone() for _ in range(4)], [*ROWS, None], "fetchone")
@@ -239,7 +239,7 @@ def test_times_come_and_go_as_datetimes():
         same(cursor.fetchall(), [(datetime.datetime(2026, 1, 2, tzinfo=utc), 3, 1)], "aggregates")
         same(cursor.execute("SELECT MAX(at) FROM n WHERE v > 9").fetchall(), [(None,)], "no value")
     with antelope.connect("image") as line:
-        # 2026-01-01 12:00 is 20,454.5 days behind 1970
+        # 2026-01-01 12:00 is 20,454.5 days after the beginning of 1970
         same(line.cursor().execute("SELECT at FROM n").fetchone(), (20454 * 86400000 + 43200000,), "the number")
     same(antelope.milliseconds(noon), 1767268800000, "milliseconds")
     same(antelope.datetime_of(1767268800001) - noon, datetime.timedelta(milliseconds=1), "and back")

@@ -18,7 +18,7 @@ from client_tests.common import EXAMPLES, PROGRAM, ROWS, SENSORS, begin, on_a_pt
 
 
 def takes(seconds, most, where, timeout):
-    """No connection comes about, which is told after these seconds."""
+    """A connection that never opens, which is reported after this many seconds."""
     begun = time.monotonic()
     refuses(antelope.OperationalError, lambda: antelope.connect(where, timeout=timeout))
     took = time.monotonic() - begun
@@ -92,7 +92,7 @@ def test_a_line_that_cannot_be_opened_is_told():
         (".", ".: "),
         # no image is so short
         ("file", "ended with 10"),
-        ("/dev/null", "/dev/null: it is no port, no socket and no image"),
+        ("/dev/null", "/dev/null: it is not a port, a socket or an image"),
         ("tcp:127.0.0.1:1", "refused"),
         ("tcp:127.0.0.1:x", "tcp:HOST:PORT"),
         ("tcp:127.0.0.1", "tcp:HOST:PORT"),
@@ -105,7 +105,7 @@ def test_a_line_that_cannot_be_opened_is_told():
         refuses(antelope.OperationalError, antelope.connect, where, says=says)
     refuses(antelope.InterfaceError, lambda: antelope.connect("none", client=5))
     with on_a_pty() as path:
-        refuses(antelope.OperationalError, lambda: antelope.connect(path, speed=7), says="7 bits a second")
+        refuses(antelope.OperationalError, lambda: antelope.connect(path, speed=7), says="a speed of 7 bits a second")
         with antelope.connect(pathlib.Path(path), speed=9600) as line:
             same(line.cursor().execute("SELECT k, t FROM s").fetchall(), ROWS, "rows")
 
@@ -181,7 +181,7 @@ def test_noise_before_a_client_is_drained():
             os.close(port)
             for _ in range(2):
                 with antelope.connect(path, timeout=5) as line:
-                    same(line.cursor().execute("SELECT k, t FROM s").fetchall(), ROWS, f"rows behind {noise[:40]}")
+                    same(line.cursor().execute("SELECT k, t FROM s").fetchall(), ROWS, f"rows after {noise[:40]}")
 
 
 def test_random_noise_is_drained():
@@ -193,7 +193,7 @@ def test_random_noise_is_drained():
             os.write(port, bytes(chance.choices(often, k=700)))
             os.close(port)
             with antelope.connect(path, timeout=5) as line:
-                same(line.cursor().execute("SELECT k, t FROM s").fetchall(), ROWS, "rows behind noise")
+                same(line.cursor().execute("SELECT k, t FROM s").fetchall(), ROWS, "rows after noise")
 
 
 def test_noise_within_a_connection_costs_no_command():
@@ -211,7 +211,7 @@ def test_noise_within_a_connection_costs_no_command():
             for at in range(len(noises)):
                 os.write(noisy, noises[at])
                 time.sleep(pause)
-                same(cursor.fetchone(), (at,), f"the row behind {noises[at]}")
+                same(cursor.fetchone(), (at,), f"the row after {noises[at]}")
             same(cursor.fetchall(), [], "the rest")
             same(cursor.execute("REMOVE FROM s WHERE t = 'n'").rowcount, len(noises), "rows that were inserted")
         os.close(noisy)
@@ -325,13 +325,13 @@ def test_a_reply_that_comes_too_late_is_no_other_reply():
 def test_a_reply_that_came_broken_is_none():
     for reply in (b"o\n", b"ok", b"5\nrows 2\n", b"ok\nok\n", b"", b"\xff\n", b"no\n", b"rows \n"):
         with answered_by(framed(reply)) as path:
-            refuses(antelope.OperationalError, lambda: antelope.connect(path, timeout=2), says="which is no reply")
+            refuses(antelope.OperationalError, lambda: antelope.connect(path, timeout=2), says="which is not a reply")
     with answered_by(framed(b"ok\n", b"ok\n", b"5\nrows 1\n", b"5x\nrows 1\n")) as path:
         with antelope.connect(path, timeout=2) as line:
             cursor = line.cursor().execute("SELECT k FROM s")
             refuses(antelope.OperationalError, cursor.fetchall, says="'5x' came")
     for row in ("5x", "'a", "5,", "'K\u00fcche'", "5 ,6", ""):
-        refuses(antelope.OperationalError, antelope.row_of, row, says="which is no row")
+        refuses(antelope.OperationalError, antelope.row_of, row, says="which is not a row")
 
 
 def test_what_was_carried_out_is_not_sent_again():

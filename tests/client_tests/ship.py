@@ -112,7 +112,7 @@ def test_rows_without_a_key_are_counted():
     program("run", "image", "-", script="REMOVE FROM s;")
     ship(*words, "--anew")
     program("run", "image", "-", script="INSERT (3, '') INTO s;")
-    same(ship(*words)[0], "s s: 1 rows, 11 in all\n", "behind an empty relation")
+    same(ship(*words)[0], "s s: 1 rows, 11 in all\n", "after an empty relation")
 
 
 def test_rows_that_were_counted_may_have_a_key_from_then_on():
@@ -138,7 +138,7 @@ def test_rows_with_the_last_key_may_come_later():
     later = [(NEW_YEAR + 1, 1, ""), (NEW_YEAR + 2, 2, "")]
     program("run", "image", "-", script="REMOVE FROM n;" + inserts(later))
     ship("s=image", "--into", "target.db")
-    same(rows_of("s"), wanted + later, "the rows behind those that were removed")
+    same(rows_of("s"), wanted + later, "the rows after those that were removed")
     # and where some of them were, no one can say which are new
     program("run", "image", "-", script=inserts([(NEW_YEAR + 2, 3, "")]))
     ship("s=image", "--into", "target.db")
@@ -168,21 +168,21 @@ def test_what_cannot_be_shipped_is_told():
     where = f"s=run:{PROGRAM} serve image -"
     write("file", "no database" * 100)
     for words, says in (
-        ((where, "--into", "t.db"), "its relations are not told"),
-        ((where, "--into", "t.db", "--relation", "s"), "s s: its attributes are not told"),
+        ((where, "--into", "t.db"), "its relations are not known"),
+        ((where, "--into", "t.db", "--relation", "s"), "s s: its attributes are not known"),
         ((where, "--into", "t.db", "--relation", "s(x)"), "s(x): no attribute 1"),
         ((where, "--into", "t.db", "--relation", "u(x)"), "u(x): no relation"),
-        ((where, "--into", "t.db", "--relation", "s(k FLOAT)"), "is no attribute with a domain"),
-        ((where, "--into", "t.db", "--relation", "s(k, t)", "--key", "s.x"), "none of the attributes"),
+        ((where, "--into", "t.db", "--relation", "s(k FLOAT)"), "is not an attribute with a domain"),
+        ((where, "--into", "t.db", "--relation", "s(k, t)", "--key", "s.x"), "not one of the named attributes"),
         ((where, "--into", "t.db", "--relation", "s(k, t)", "--key", "s.t"), "the key s.t is a text"),
-        (("s=image", "--into", "t.db", "--relation", "s", "--remove", "rows"), "--remove wants a key for s"),
+        (("s=image", "--into", "t.db", "--relation", "s", "--remove", "rows"), "--remove needs a key for s"),
         (("s=image", "--into", "t.db", "--relation", "s", "--relation", "S(k)"), "two relations would have one table"),
         (("s=image", "--into", "influx:", "--remove", "rows"), "nothing is removed"),
         (("s=image", "--into", "t.db", "--since", "5"), "--since is for InfluxDB"),
         (("s=image", "--into", "file"), "file is not a database"),
-        (("s=image", "--into", ""), "'' is no file"),
-        (("s=image", "--into", ":memory:"), "':memory:' is no file"),
-        (("s=image", "--into", "t.db", "--key", "n.k"), "the key of n is of no relation that is shipped"),
+        (("s=image", "--into", ""), "'' is not a file"),
+        (("s=image", "--into", ":memory:"), "':memory:' is not a file"),
+        (("s=image", "--into", "t.db", "--key", "n.k"), "--key names n, which is not shipped"),
         (("s=image", "s=image", "--into", "t.db"), "two stations have one name"),
         (("s=image", "--into", "t.db", "--relation", "s(k)", "--key", "s.k", "--remove", "rows"), "and t is not named"),
         (("s=none.img", "--into", "t.db"), "'none.img'"),
@@ -323,7 +323,7 @@ def repair(image):
 
 
 def killed(seconds, *words):
-    """Kills a call after so many seconds; whether it had ended by itself."""
+    """Kills a call after this many seconds; whether it had ended by itself."""
     with begun(*words) as call:
         try:
             call.wait(seconds)
@@ -395,8 +395,8 @@ def test_a_call_that_is_killed_at_any_step_loses_no_row_and_doubles_none():
             call = ("s=image", "--into", "target.db", "--batch", "1", *words)
             is_over = killed_at(last, *call)
             repair("image")
-            same(killed_at(0, *call), True, f"the call behind a kill before step {last} ended")
-            same(rows_of("s"), THREE, f"the rows behind a kill before step {last} with {words}")
+            same(killed_at(0, *call), True, f"the call after a kill before step {last} ended")
+            same(rows_of("s"), THREE, f"the rows after a kill before step {last} with {words}")
             same(program("dump", "image").count("INSERT"), 1 if words else 3, "rows at the station")
             os.unlink("target.db")
         same(last > 20, True, f"{last} steps")
@@ -414,7 +414,7 @@ def test_calls_that_are_killed_lose_no_row_and_double_none():
             # what a killed call was about to remove may be half done
             repair("image")
         ship(*call, "target.db")
-        same(rows_of("s"), rows, f"the rows behind {kills} kills with {words}")
+        same(rows_of("s"), rows, f"the rows after {kills} kills with {words}")
         same(program("dump", "image").count("INSERT"), 2 if words else len(rows), "rows at the station")
         os.unlink("target.db")
         os.unlink("other.db")
@@ -448,7 +448,7 @@ def test_a_line_that_is_cut_off_loses_no_row_and_doubles_none():
     made("image", READINGS + inserts(rows))
     names = ("--relation", "n(at TIME, v, t)", "--key", "n.at", "--batch", "30", "--into", "target.db")
     for at in range(8):
-        # the program hears or says no more than so many bytes, and ends
+        # the program receives or sends at most this many bytes, and ends
         front, behind = f"head -c {chance.randrange(300, 900)} | ", f" | head -c {chance.randrange(200, 20_000)}"
         pipe = f"{front if at % 2 else ''}{PROGRAM} serve image -{'' if at % 2 else behind}"
         words = f"s=run:sh -c '{pipe}'", *names, "--timeout", "1", *(("--remove", "rows") if at > 3 else ())

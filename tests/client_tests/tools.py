@@ -11,7 +11,7 @@ import tty
 import antelope
 import antelope_csv
 from client_tests.common import (
-    CLIENTS, EXAMPLES, PROGRAM, ROOT, SENSORS, made, on_a_pty, program, read, same, station, tool, write,
+    CLIENTS, EXAMPLES, PROGRAM, ROOT, SENSORS, Skipped, made, on_a_pty, program, read, same, station, tool, write,
 )
 from client_tests.lines import answered_by, framed
 
@@ -47,6 +47,20 @@ def test_each_command_of_the_package_is_there():
         same((ended.returncode, ended.stdout[:6]), (0, b"usage:"), f"the help of {command}")
     words = [sys.executable, "-B", "-m", "sorachest", "ask", "--help"]
     same(subprocess.run(words, cwd=CLIENTS, stdout=subprocess.PIPE).returncode, 0, "the help of the module")
+
+
+def test_pip_installs_the_package_without_a_network():
+    if subprocess.run([sys.executable, "-m", "pip", "--version"], stdout=subprocess.DEVNULL, stderr=subprocess.DEVNULL).returncode:
+        raise Skipped("this Python has no pip")
+    environment = {**os.environ, "PYTHONDONTWRITEBYTECODE": "1", "PYTHONPATH": os.path.abspath("installed")}
+    words = [sys.executable, "-m", "pip", "install", "--quiet", "--no-index", "--no-deps", "--target", "installed", CLIENTS]
+    same(subprocess.run(words, env=environment, stderr=subprocess.DEVNULL).returncode, 0, "the status of pip")
+    code = "import sorachest; print(sorachest.__version__, sorachest.__file__)"
+    imported = subprocess.run([sys.executable, "-c", code], env=environment, stdout=subprocess.PIPE).stdout.decode()
+    version = read(f"{ROOT}/VERSION").decode().strip()
+    same(imported, f"{version} {os.path.abspath('installed/sorachest/__init__.py')}\n", "what is imported")
+    wrote = subprocess.run(["installed/bin/sorachest-csv", "--help"], env=environment, stdout=subprocess.PIPE).stdout
+    same(wrote[:20], b"usage: sorachest-csv", "the help of a command")
 
 
 def test_the_words_of_the_language_are_those_of_its_page():
@@ -171,15 +185,15 @@ def test_csv_that_aql_cannot_write_is_refused():
         ("k,t\n1,K\u00fcche\n", "", "line 2: "),
         ("k,t\n1," + "a" * 33 + "\n", "", "line 2: "),
         ("k,t\n1\n", "", "line 2: 1 values for 2 columns"),
-        ("k,t\n32768,a\n", "INT,STRING(1)", "line 2: '32768' is no number from -32768 to 32767"),
+        ("k,t\n32768,a\n", "INT,STRING(1)", "line 2: '32768' is not a number from -32768 to 32767"),
         ("k,t\n-1,a\n", "TIME,STRING(1)", "line 2: "),
         ("k,t\n1.5,a\n", "INT,STRING(1)", "line 2: "),
         ("k,t\n,a\n", "LONG,STRING(1)", "line 2: "),
         ("k,t\n1,ab\n", "INT,STRING(1)", "line 2: 'ab' has more than 1 characters"),
         ("k,t\n1,a\n", "INT", "1 domains for 2 columns"),
-        ("k,t\n1,a\n", "INT,TEXT", "'TEXT' is no domain"),
-        ("k,t\n1,a\n", "INT,STRING(33)", "'STRING(33)' is no domain"),
-        ("k,t\n1,\n", "INT,STRING(0)", "'STRING(0)' is no domain"),
+        ("k,t\n1,a\n", "INT,TEXT", "'TEXT' is not a domain"),
+        ("k,t\n1,a\n", "INT,STRING(33)", "'STRING(33)' is not a domain"),
+        ("k,t\n1,\n", "INT,STRING(0)", "'STRING(0)' is not a domain"),
         ("a,b,c,d,e,f,g,h,i\n1,2,3,4,5,6,7,8,9\n", "", "9 columns, and a relation at most 8"),
         ("", "", "no line with names"),
     ):
@@ -188,9 +202,9 @@ def test_csv_that_aql_cannot_write_is_refused():
         wrote, said = tool("antelope_csv", "in", "rows.csv", "s", *words, status=1)
         same((wrote, says in said), ("", True), f"{text!r}: {said}")
     for names, says in (
-        ("k t,v", "'k t' is no name in AQL"),
-        ("v,Min", "'Min' is no name in AQL"),
-        (f"v,{'k' * 16}", "is no name in AQL"),
+        ("k t,v", "'k t' is not a name in AQL"),
+        ("v,Min", "'Min' is not a name in AQL"),
+        (f"v,{'k' * 16}", "is not a name in AQL"),
         ("v,v", "two columns are called v"),
     ):
         write("rows.csv", f"{names}\n1,2\n")
@@ -199,10 +213,10 @@ def test_csv_that_aql_cannot_write_is_refused():
         same(tool("antelope_csv", "in", "rows.csv", "s")[0], "INSERT (1, 2) INTO s;\n", f"rows without {names}")
     for relation in ("", "s; PACK s", "index", "1s", "s" * 16):
         wrote, said = tool("antelope_csv", "in", "rows.csv", relation, status=1)
-        same((wrote, "is no name in AQL" in said), ("", True), f"{relation!r}: {said}")
+        same((wrote, "is not a name in AQL" in said), ("", True), f"{relation!r}: {said}")
     for delimiter in ("", "ab", '"', "\n"):
         said = tool("antelope_csv", "in", "rows.csv", "s", "--delimiter", delimiter, status=2)[1]
-        same("is not one character" in said, True, f"{delimiter!r}: {said}")
+        same("is not a character that can separate values" in said, True, f"{delimiter!r}: {said}")
     tool("antelope_csv", "in", "none.csv", "s", status=1)
 
 
@@ -235,13 +249,13 @@ def test_csv_of_the_field_comes_in():
     same(script_of(pointed, *words), [*rows, blank], "a comma in a decimal")
     write("rows.csv", FIELD)
     for words, says in (
-        ((), "line 2: '21.5' times 1 is no whole number: --scale celsius=10 makes one of it"),
+        ((), "line 2: '21.5' times 1 is not a whole number: use --scale celsius=10"),
         (("--scale", "10"), "line 4: celsius is blank"),
         (("--scale", "100", "--domains", "TIME,INT,STRING(3)"), "line 2: 'open' has more than 3 characters"),
-        (("--scale", "2000", "--domains", "TIME,INT,STRING(4)"), "line 2: '21.5' makes 43000, which is no number from"),
+        (("--scale", "2000", "--domains", "TIME,INT,STRING(4)"), "line 2: '21.5' makes 43000, which is not a number from"),
         (("--scale", "minute=10"), "there is no column minute"),
         (("--scale", "0"), "a scale is at least 1"),
-        (("--blank", "none"), "'none' is no whole number"),
+        (("--blank", "none"), "'none' is not a whole number"),
     ):
         said = tool("antelope_csv", "in", "rows.csv", "s", *words, status=1)[1]
         same(says in said, True, f"{words}: {said}")
@@ -261,11 +275,11 @@ def test_times_of_a_csv_are_milliseconds():
     ):
         same(script_of(f'at\n"{text}"\n'), [f"INSERT ({milliseconds}) INTO s;"], text)
     for text, says in (
-        ("2025-02-29", "is no time"),
-        ("2026-01-01 24:00", "is no time"),
-        ("1969-12-31", "is no number from 0"),
-        ("2026-01-01 01:02:03.0005", "parts of a millisecond"),
-        ("yesterday", "is no number from 0"),
+        ("2025-02-29", "is not a time"),
+        ("2026-01-01 24:00", "is not a time"),
+        ("1969-12-31", "is not a number from 0"),
+        ("2026-01-01 01:02:03.0005", "fractions of a millisecond"),
+        ("yesterday", "is not a number from 0"),
     ):
         write("rows.csv", f"at\n{text}\n")
         said = tool("antelope_csv", "in", "rows.csv", "s", "--domains", "TIME", status=1)[1]
@@ -297,7 +311,7 @@ def test_a_dry_run_tells_what_is_in_the_way_and_does_nothing():
         wrote, _ = tool("antelope_csv", *words, "--line", path, status=1)
         lines = [
             "at: TIME (guessed)", "celsius: INT (guessed), times 10, 1 blank", "door: STRING(4) (guessed), 1 blank",
-            "line 4: celsius is blank: --blank names what stands for that",
+            "line 4: celsius is blank: use --blank VALUE or --blank skip",
             # two INSERTs of 44 and 40 bytes with their line ends
             "2 rows of 3 fit, 84 bytes of INSERTs",
         ]

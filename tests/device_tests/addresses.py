@@ -199,7 +199,7 @@ start:
 
 define i32 @main() #0 {
 start:
-  ; the last of 3 bytes behind the first, by a pair
+  ; the last of 3 bytes after the first, by a pair
   %p = call { ptr, i64 } @"some::pair"(ptr @static.0)
   %p0 = extractvalue { ptr, i64 } %p, 0
   %p1 = extractvalue { ptr, i64 } %p, 1

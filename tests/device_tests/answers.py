@@ -5,7 +5,7 @@ from .common import EXAMPLES, MAIN, SECTOR, Pair, boot, build, chip_of, examples
 
 
 def test_a_board_answers_as_linux_does():
-    """The examples one behind another on one chip, and each form."""
+    """The examples one after another on one chip, and each command of the program."""
     for processor in processors():
         both = Pair(build(processor))
         for name in examples():
@@ -31,7 +31,7 @@ def test_a_board_with_a_serial_chip_answers_as_linux_does():
     both.do("look")
 
 
-# so many generated commands leave a flash that is collected by the next ones
+# after this many generated commands the next ones collect the flash
 FILLING = {"aarch64": "1325", "riscv64": "1235", "thumbv7em": "1235"}
 
 
@@ -56,7 +56,7 @@ def test_generated_commands_leave_the_same_bytes_on_a_microcontroller():
 def test_random_scripts_leave_the_same_bytes_on_a_microcontroller():
     board, lines = build(processors(("thumbv7em",))[0]), 0
     for seed in range(40):
-        # eight scripts one behind another on one chip
+        # eight scripts one after another on one chip
         if seed % 8 == 0:
             both = Pair(board)
         lines += both.do("run", "-", script=script(seed, 100).encode()).count(b"\n")
@@ -66,8 +66,8 @@ def test_random_scripts_leave_the_same_bytes_on_a_microcontroller():
 
 def refuses(processor):
     both = Pair(build(processor))
-    same(boot(both.board, "gen", "chip", "1", "0", status=1), b"", "words of no form")
-    same(boot(both.board, "fly", "chip", status=1), b"", "words of no form")
+    same(boot(both.board, "gen", "chip", "1", "0", status=1), b"", "wrong arguments")
+    same(boot(both.board, "fly", "chip", status=1), b"", "wrong arguments")
     both.do("run", "-", script=read(f"{EXAMPLES}/first.aql"))
     image = bytearray(read("image"))
     image[9] = 1

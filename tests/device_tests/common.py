@@ -136,7 +136,7 @@ class Pair:
         linux.length("image", SECTORS[board.split("-")[0]] * SECTOR)
 
     def do(self, form, *words, script=b"", status=0):
-        """What both write, behind which both hold the same bytes."""
+        """What both write, after which both hold the same bytes."""
         wanted = linux.run(form, "image", *words, script=script, status=status)
         got = boot(self.board, form, "chip", *words, script=script, status=status)
         same(got, wanted, f"what {form} {words} writes on {self.board}")

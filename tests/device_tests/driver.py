@@ -50,7 +50,7 @@ def test_the_driver_programs_and_erases_and_writes_nothing_else():
         (0, bytes(257), "more than a page"),
         (256, bytes(SECTOR), "an erase beside the start of a sector"),
         (0, bytes(SECTOR - 1) + b"\1", "a sector that is not all zeros"),
-        (4 * SECTOR, b"\1", "a program behind the flash"),
+        (4 * SECTOR, b"\1", "a program beyond the flash"),
         (4 * SECTOR - 1, b"\1\1", "a program across the end of the flash"),
         (-1, b"\1", "a program before the flash"),
     ):
@@ -85,7 +85,7 @@ def test_the_byte_4_ends_a_script_and_no_line_of_frames():
     byte.value = 4
     same(take()[0], 0, "the end of a script")
     byte.value = 65
-    same(take()[0], 0, "what comes behind it")
+    same(take()[0], 0, "what comes after it")
     same(calls.node_read(OUT, into, ctypes.c_size_t(8)), -1, "another file")
 
 

@@ -11,7 +11,7 @@ INDEXED = b"CREATE RELATION n; CREATE ATTRIBUTE v DOMAIN LONG IN n; CREATE INDEX
 
 
 def acknowledged(begun, many):
-    """Reads replies until so many are there, or none comes any more."""
+    """Reads replies until this many have arrived, or none arrives any more."""
     got = b""
     while got.count(b"ok\n") < many and select.select([begun.stdout], [], [], 20)[0]:
         part = os.read(begun.stdout.fileno(), 65536)
@@ -22,7 +22,7 @@ def acknowledged(begun, many):
 
 
 def load_and_cut(board, rows, many):
-    """Inserts rows until so many are acknowledged, and cuts the power in the middle of the next ones: how many were."""
+    """Inserts rows until this many are acknowledged, cuts the power during the next ones, and returns how many were acknowledged."""
     begun = begin(board, "run", "chip", "script", stdin=subprocess.DEVNULL)
     write("script", linux.inserts(rows, many + 400))
     got = acknowledged(begun, many)

@@ -114,7 +114,7 @@ def taken(calls, nor, at, count):
     """What was read, or that it was not, and that nothing else was written."""
     into = ctypes.create_string_buffer(b"\xa5" * (count + 16), count + 16)
     is_read = calls.nor_read(ctypes.byref(nor), at, into, ctypes.c_size_t(count))
-    same(into.raw[count:], b"\xa5" * 16, "what stands behind the place")
+    same(into.raw[count:], b"\xa5" * 16, "what stands after the place")
     return into.raw[:count] if is_read else None
 
 
@@ -219,7 +219,7 @@ def test_a_serial_bus_that_fails_is_told():
             works.busy = 0
             same((bool(does()), len(works.commands)), (False, works.fails_at + 1), f"{name} at exchange {works.fails_at}")
         works.fails_at, works.busy, works.wrong = None, 0, []
-        same(calls.nor_begin(ctypes.byref(nor)), 1, "the chip behind it")
+        same(calls.nor_begin(ctypes.byref(nor)), 1, "the chip after that")
 
 
 def test_a_serial_chip_tells_what_it_is():

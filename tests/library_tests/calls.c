@@ -11,7 +11,12 @@
 #include <stdlib.h>
 #include <string.h>
 
-enum { SECTOR = 4096, STACK = 96 * 1024, PAINT = 0xa5 };
+/* a library without proofs takes more stack than the header names */
+#ifndef STACK_KIB
+#define STACK_KIB 96
+#endif
+
+enum { SECTOR = 4096, STACK = STACK_KIB * 1024, PAINT = 0xa5 };
 
 /* What a call is given, and what it came to. */
 static const char *form;

@@ -68,7 +68,7 @@ def beside(call, image, *words):
     wanted = program(words[0], f"{image}.other", *words[1:])
     same(call(words[0], image, *words[1:])[:2], wanted, f"status and replies of {words}")
     if read(image) != read(f"{image}.other"):
-        raise AssertionError(f"the image behind {words} is not the program's")
+        raise AssertionError(f"the image after {words} is not the program's")
     return wanted
 
 

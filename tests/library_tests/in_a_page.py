@@ -20,11 +20,16 @@ def module(*words):
     return ended([*HELD, *words])
 
 
-def test_every_form_of_the_module_answers_as_the_program():
-    needs("node")
+def has_long_addresses():
+    """Skips a test if node has no memory with 64-bit addresses."""
     probe = "new WebAssembly.Module(new Uint8Array([0,97,115,109,1,0,0,0,5,3,1,4,1]))"
     if ended(["node", "--experimental-wasm-memory64", "-e", probe])[0]:
-        raise Skipped("this node knows no memory of 64-bit addresses")
+        raise Skipped("this node has no memory with 64-bit addresses")
+
+
+def test_every_form_of_the_module_answers_as_the_program():
+    needs("node")
+    has_long_addresses()
     all_forms_beside(module)
 
 

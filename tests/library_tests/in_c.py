@@ -45,7 +45,7 @@ def test_the_example_answers_as_the_program():
         done = ended(["sh", "-c", 'exec "$0" image <"$1"', made, example(name)])
         same(done, (0, read(f"{EXAMPLES}/{name}.expected"), ""), f"what it wrote of {name}")
         same(program("run", "other", example(name))[0], 0, "the status of the program")
-        same(read("image") == read("other"), True, f"that the image behind {name} is the program's")
+        same(read("image") == read("other"), True, f"that the image after {name} is the program's")
 
 
 def run_example(before, image, script=None):

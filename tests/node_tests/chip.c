@@ -61,7 +61,7 @@ static int put(const struct sorachest_config *config, uint32_t sector, uint32_t 
 
 static int erase(const struct sorachest_config *config, uint32_t sector) {
     struct chip *chip = chip_of(config);
-    must(sector < chip->sectors, "an erase behind the flash");
+    must(sector < chip->sectors, "an erase beyond the flash");
     chip->erases++;
     if (chip->erases_idle) return 0;
     size_t done = !fails(chip) ? SECTOR : chip->tears ? SECTOR / 2 : 0;

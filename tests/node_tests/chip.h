@@ -7,7 +7,7 @@ struct chip {
     uint8_t *bytes;
     uint32_t sectors;
     long reads, bytes_read, programs, erases;
-    long fails_at;       /* the program or erase of this number fails, as all behind it; 0: none does */
+    long fails_at;       /* the program or erase of this number fails, as all after it; 0: none does */
     int tears;           /* a program that fails leaves a front part, and an erase too */
     int reads_fail;      /* every read fails */
     int erases_idle;     /* an erase says that it is done, and does nothing */

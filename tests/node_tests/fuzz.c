@@ -1,6 +1,6 @@
 /* Random calls of sorachest_node.h on two databases whose flashes fail at random: `fuzz SEED CALLS`.
  *
- * Each call answers what the header allows, and what was inserted with OK is there to the end, also behind failures. Commands
+ * Each call answers what the header allows, and what was inserted with OK is there to the end, also after failures. Commands
  * that are made of random bytes change no row, since each row that is inserted by values is counted by its key.
  */
 #include "chip.h"

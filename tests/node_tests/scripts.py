@@ -16,7 +16,7 @@ def beside(made, form, image, script=None, before=()):
         done = subprocess.run([*before, made, form, image], stdin=file, stdout=subprocess.PIPE, stderr=subprocess.PIPE)
     wanted = program(form, "other", *([script] if script else []))
     same((done.returncode, done.stdout), wanted, f"status and replies of {form} {script}")
-    same(read(image) == read("other"), True, f"that the image behind {form} {script} is the program's")
+    same(read(image) == read("other"), True, f"that the image after {form} {script} is the program's")
     return done.stdout, int(re.search(rb"memory (\d+)", done.stderr)[1])
 
 

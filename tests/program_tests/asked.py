@@ -84,7 +84,7 @@ def test_only_the_first_refusals_are_shown():
 def test_a_long_line_is_shown_around_its_mark():
     run("run", "image", "-")
     said = strictly(b"SELECT " + b"a" * 10 + b" FROM n WHERE k = " + b"1 + " * 30 + b"? 1;")[1]
-    # the last of 33 tokens in a row ends behind the plus, 35 + 119 bytes from the first
+    # the last of 33 tokens in a row ends after the plus, 35 + 119 bytes from the first
     first = "SELECT aaaaaaaaaa FROM n WHERE k = " + "1 + " * 30 + "? 1"
     wanted = (1, f"no syntax 154: {NO_COMMAND}", first[94:], " " * 60 + "^")
     same(said, refusals(1, 1, 1, 1, wanted), "what is said")
@@ -173,7 +173,7 @@ def test_rows_are_asked_as_csv():
     commands = ("select v ,\n t FROM n WHERE v > 0;", "PACK n; SELECT MAX(v),MEAN( v )FROM n WHERE v>9", "JOIN n, n ON v PROJECT t",
                 "SELECT v FROM n WHERE v > 9", "OPEN 1 SELECT v FROM n", "FETCH 1")
     wanted = 'v,t\n7,"a,b"\n5," ""x-"\nMAX(v),MEAN(v)\n,\nt\n"a,b"\n\n" ""x-"\n7\n'
-    same(launch(tried.launcher, "--header", "ask", "image", *commands), (wanted, "", 0), "rows behind their names")
+    same(launch(tried.launcher, "--header", "ask", "image", *commands), (wanted, "", 0), "rows after their names")
     said = lines_of(f"command 2: {NO_RELATION}") + "    PACK m\n"
     came = launch(tried.launcher, "--header", "ask", "image", "SELECT v FROM n", "PACK m", "SELECT COUNT(v) FROM n")
     same(came, ("v\n7\n-1\n5\nCOUNT(v)\n3\n", said, 11), "one that is refused")

@@ -34,7 +34,7 @@ def made(image):
 
 
 RT = """#!/bin/sh
-# stands for rt: proves a crate unless it is told not to, and makes a program
+# takes the place of rt: proves a crate unless it is told not to, and makes a program
 name=$(basename "$PWD")
 echo "$1 $name" >>../../asked
 [ ! -e ../../slow ] || { echo $$ >../../slow; sleep 1; }

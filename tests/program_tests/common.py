@@ -64,7 +64,7 @@ def run(*words, script=b"", status=0, limit=None, **how):
         how["input"] = script
     ended = subprocess.run(command, **how)
     same(ended.stderr or b"", b"", f"standard error of {words}")
-    same(ended.returncode, status, f"status of {words}{f' behind {limit}' if limit else ''}")
+    same(ended.returncode, status, f"status of {words}{f' after {limit}' if limit else ''}")
     return ended.stdout
 
 

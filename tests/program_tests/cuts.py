@@ -1,4 +1,4 @@
-"""Cuts at each write of a run over eight relations and eight indexes, and of the repairs behind them; damage that no cut leaves."""
+"""Cuts at each write of a run over eight relations and eight indexes, and of the repairs after them; damage that no cut leaves."""
 from .common import ended, read, run, same, start, write
 from .repairs import calls_of
 
@@ -30,7 +30,7 @@ def eight_relations():
 
 
 def left_at(image, calls, number, count):
-    """What an image is where the power goes in this call for it, of which so many bytes were done."""
+    """The image if the power fails during this call, after this many of its bytes."""
     image = bytearray(image)
     for call in calls[:number]:
         if call[0] == "W":
@@ -47,7 +47,7 @@ def fronts(content):
 
 
 def dumps_of(image, commands):
-    """The database before some commands, and behind each of them."""
+    """The database before some commands, and after each of them."""
     write("step", image)
     dumps = [run("dump", "step")]
     for command in commands:
@@ -72,20 +72,20 @@ def check_repaired(allowed, what):
     last, calls = calls_of("repair", "cut")
     same(last, to_come, f"{what}: what the repair said")
     if run("dump", "cut") not in allowed:
-        raise AssertionError(f"{what}: behind the repair stands another database")
+        raise AssertionError(f"{what}: after the repair stands another database")
     same(run("repair", "cut"), b"sound\n", f"{what}: a second repair")
     for number, call in enumerate(calls):
         if call[0] == "W":
             write("cut", left_at(cut, calls, number, len(call[2]) // 2 if len(call[2]) > 2 else 0))
             to_come = foretold("cut")
-            same(run("repair", "cut"), to_come, f"{what}: what a repair said behind one that was cut at call {number}")
+            same(run("repair", "cut"), to_come, f"{what}: what a repair said after one that was cut at call {number}")
             if run("dump", "cut") not in allowed:
-                raise AssertionError(f"{what}: behind a repair that was cut at call {number} stands another database")
+                raise AssertionError(f"{what}: after a repair that was cut at call {number} stands another database")
     return last != b"sound\n"
 
 
 def check_cuts(image, commands, one_in):
-    """Cuts these commands at each of their writes, and repairs what is left of one cut in so many."""
+    """Cuts these commands at each of their writes, and repairs the image of every n-th cut."""
     dumps = dumps_of(image, commands)
     write("image", image)
     _, calls = calls_of("run", "image", "-", script="\n".join(commands).encode())

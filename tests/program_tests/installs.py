@@ -3,6 +3,7 @@ import os
 import re
 import shutil
 import subprocess
+import sys
 
 from .common import NEW_IMAGE, ROOT, Skipped, read, same, tried, write
 from .clones import asked, built, copy_launcher, launch, lines_of
@@ -62,10 +63,21 @@ def test_what_is_installed_stands_without_the_clone():
     works(f"{os.getcwd()}/in here", version)
     same(os.stat("in here/lib/sorachest/VERSION").st_mode & 0o777, 0o644, "the mode of a file")
     same(read("in here/lib/libsorachest.a"), b"an archive", "the library")
+    same(os.path.exists("in here/share/sorachest"), False, "that there is no page")
     if shutil.which("pkg-config"):
         environment = {**os.environ, "PKG_CONFIG_PATH": "in here/lib/pkgconfig"}
         known = subprocess.run(["pkg-config", "--modversion", "sorachest"], env=environment, stdout=subprocess.PIPE)
         same(known.stdout.decode(), f"{version}\n", "what pkg-config knows")
+
+
+def test_a_proved_program_is_installed_without_a_library_that_is_not():
+    path = whole_clone()
+    os.makedirs("repo/c/out")
+    for name in ("libsorachest.a", "unproved"):
+        write(f"repo/c/out/{name}", b"")
+    output = launch("repo/antelope", "install", "here", path=path)[0]
+    said = "install: the library was compiled without its proofs (c/build try), and left out"
+    same((said in output.splitlines(), os.path.exists("here/lib/libsorachest.a")), (True, False), "what is installed")
 
 
 def test_what_was_compiled_without_proofs_says_so_where_it_is_installed():
@@ -91,10 +103,16 @@ def test_packages_run_on_another_machine():
     subprocess.run(["tar", "-xzf", f"repo/out/{names[0]}"], check=True)
     if len(packages) > 1:
         subprocess.run(["dpkg-deb", "-x", f"repo/out/{names[1]}", "debian"], check=True)
+        subprocess.run(["dpkg-deb", "-e", f"repo/out/{names[1]}", "control"], check=True)
     shutil.rmtree("repo")
     works(names[0][:-len(".tar.gz")], version)
     if len(packages) > 1:
         works("debian/usr", version)
+        same(os.access("control/prerm", os.X_OK), True, "that a removal clears what Python compiled")
+        environment = {**os.environ, "PYTHONPATH": "debian/usr/lib/python3/dist-packages", "PYTHONDONTWRITEBYTECODE": "1"}
+        words = [sys.executable, "-c", "import sorachest; print(sorachest.__version__)"]
+        imported = subprocess.run(words, env=environment, stdout=subprocess.PIPE, check=True)
+        same(imported.stdout.decode(), f"{version}\n", "what Python imports")
 
 
 def test_install_of_wrong_words_or_where_it_is_installed_is_refused():

@@ -85,6 +85,22 @@ def test_forms_of_the_usage_are_those_of_the_documents():
     shown = [re.sub(r"\\f[BIR]", "", it) for it in re.findall(r"^\.TP\n(\\fB\w+\\fR \\fI[A-Z].*)", manual, re.M)]
     same(shown, forms, "the forms of the manual page")
     same(sorted(row[0].strip("| `") for row in rows_of("README.md", "command")), sorted(forms), "the forms of README.md")
+    names = {it.split()[0] for it in forms}
+    bash = re.search("forms='(.*?)'", read(f"{ROOT}/docs/completions/antelope.bash").decode())[1].split()
+    zsh = re.findall(r"^    '(\w+):", read(f"{ROOT}/docs/completions/_antelope").decode(), re.M)
+    same((set(bash), set(zsh) - {"try", "install", "help"}), (names, names), "the forms that are completed")
+
+
+def test_each_form_is_a_call_of_the_libraries():
+    forms = {it.split()[0] for it in re.findall(r"^    (\w+ IMAGE.*)", launch(tried.launcher, "help")[0], re.M)} - {"ask", "gen"}
+    declared = r"sorachest_(\w+)\(uint8_t \*image"
+    for path, pattern in (
+        ("c/sorachest.h", declared), ("crates/sorachest_c/src/lib.rt", r"fn sorachest_(\w+)\(image"),
+        ("page/library.mjs", r"#call\('sorachest_(\w+)', image"), ("tests/library_tests/calls.c", r"= sorachest_(\w+)\(image"),
+    ):
+        same(sorted(re.findall(pattern, read(f"{ROOT}/{path}").decode())), sorted(forms), f"the calls in {path}")
+    node = set(re.findall(r"^int sorachest_(\w+)\(struct sorachest \*db, const struct", read(f"{ROOT}/node/sorachest_node.h").decode(), re.M))
+    same(sorted(node), sorted(forms - {"run", "serve", "plan"} | {"open"}), "the calls for firmware over a closed database")
 
 
 def test_what_is_wrong_with_words_of_no_form_is_told():

@@ -37,7 +37,7 @@ subprocess.run(shlex.split(sys.argv[2][len("EXEC:"):]), stdin=near, stdout=near)
 
 
 def commands_of(page):
-    """The commands that a page shows behind `$ `, and the lines that it shows below each."""
+    """The commands that a page shows after `$ `, and the lines that it shows below each."""
     shown, indent = [], None
     for line in read(f"{ROOT}/{page}").decode().splitlines():
         begins = re.fullmatch(r"( *)\$ (.*)", line)
@@ -69,7 +69,7 @@ def why_not_run(command):
 
 
 def as_script(commands, line):
-    """A script that runs commands in their order, and tells the number and the status of each behind what it wrote."""
+    """A script that runs commands in order, and prints the number and the status of each after its output."""
     script = "exec 2>&1\n"
     for number, (command, _) in enumerate(commands):
         # a name in /tmp is one for a machine, on which tests may run side by side
@@ -189,7 +189,7 @@ def test_the_loop_that_operating_shows_serves_on_behind_the_limit():
         begun = subprocess.Popen(["sh", "-c", loop], stderr=subprocess.PIPE, **how)
         for _ in range(4096):
             os.write(near, b"\xc0" * 4096)
-        # one byte past the limit, and behind it a frame for the next run
+        # one byte past the limit, and after it a frame for the next run
         os.write(near, b"\xc0\1SELECT MAX(celsius) FROM readings\xc0")
         reply = b""
         while not reply.endswith(b"\xc0"):

@@ -77,10 +77,10 @@ def test_a_picture_marks_what_is_no_file_that_stands():
 def test_a_picture_of_a_damaged_image_ends():
     run("run", "whole", f"{EXAMPLES}/first.aql")
     place, first = 6 * 256, "    0  CCCCCC  CAT, 6 pages\n"
-    # T0 lies behind the 6 pages of CAT
+    # T0 lies after the 6 pages of CAT
     for at, byte, why in (
         (6, 0, "the extent at page 6 has no pages"),
-        (7, 255, "the extent at page 6 has 65296 pages, and ends behind the flash"),
+        (7, 255, "the extent at page 6 has 65296 pages, and ends beyond the flash"),
         (8, 2, "page 6 is neither free nor isolated, and begins with no header"),
         (9, 1, "page 6 is neither free nor isolated, and begins with no header"),
         (10, 255, "page 6 is neither free nor isolated, and begins with no header"),

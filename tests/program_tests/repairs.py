@@ -19,7 +19,7 @@ def inserts(begin, many):
 
 
 def repaired(image, least, most):
-    """What a repair of an image said, behind which its rows are the numbers from 0 on, at least and at most so many."""
+    """The output of a repair. Afterwards the rows of the image must be the numbers from 0 on, at least and at most this many."""
     said = run("repair", image).decode().splitlines()
     rows = run("run", image, "-", script=b"SELECT v FROM n;").decode().splitlines()[:-1]
     same(rows, [str(it) for it in range(len(rows))], "the rows")
@@ -79,7 +79,7 @@ def test_a_collection_erases_the_sectors_that_hold_only_old_data():
     was = read("image")
     same(run("collect", "image", script=b"x"), b"sectors erased 0\n", "while nothing is old")
     unchanged("image", was)
-    # CAT has the pages 0 to 5, T0 6 to 21, the log of CAT 22 to 37, and T1 to T4 16 each behind it: of what is removed
+    # CAT has the pages 0 to 5, T0 6 to 21, the log of CAT 22 to 37, and T1 to T4 16 each after it: of what is removed
     # the sectors 3 and 4 hold nothing else, and the pages of T1 and T3 in other sectors are isolated
     run("run", "image", "-", script=b"REMOVE RELATION b; REMOVE RELATION c; REMOVE RELATION d;")
     was, dumped = bytearray(read("image")), run("dump", "image")
@@ -91,7 +91,7 @@ def test_a_collection_erases_the_sectors_that_hold_only_old_data():
     write("image", was)
     same(run("collect", "image"), b"sectors erased 2\n", "where two sectors are old")
     unchanged("image", collected)
-    same((run("dump", "image"), run("collect", "image")), (dumped, b"sectors erased 0\n"), "behind it")
+    same((run("dump", "image"), run("collect", "image")), (dumped, b"sectors erased 0\n"), "after it")
     # the header of CAT names a log at page 254, where none is
     was[:] = b"\xff" + was[1:]
     write("image", was)
@@ -102,7 +102,7 @@ def test_a_collection_erases_the_sectors_that_hold_only_old_data():
 def test_a_row_that_was_cut_is_taken_back():
     run("run", "image", "-", script=INDEXED + inserts(0, 3))
     image = bytearray(read("image"))
-    # the fourth row of T0, of which two bytes came, stands behind the three of five bytes
+    # the fourth row of T0, of which two bytes came, stands after the three of five bytes
     place = image.index(b"T0") - 10 + 32 + 3 * 5
     image[place:place + 2] = b"\x07\x01"
     write("image", image)
@@ -171,7 +171,7 @@ def calls_of(*words, **how):
 
 
 def left_by_power(image, calls):
-    """What a disk may keep of an image: each write before the last that it was told to keep, and of those behind any."""
+    """What a disk may keep of an image: each write before the last sync, and any of the later ones."""
     kept = max((number for number, call in enumerate(calls) if call[0] == "S"), default=0)
     later = [call for call in calls[kept:] if call[0] == "W"]
     image = bytearray(image)
@@ -195,6 +195,10 @@ def test_synced_writes_are_on_the_disk_one_by_one():
     same([it for it in without if it[0] != "S"], [it for it in calls if it[0] != "S"], "the writes without it")
     same([it for it in without if it[0] == "S"], [], "the syncs without it")
     same(read("image"), read("other"), "the images")
+    run("gen", "old", "7", "2000")
+    kinds = "".join(it[0] for it in calls_of("collect", "old", env=SYNCED)[1])
+    # what earlier runs wrote and the image's name; then each erase with its own sync, and the reply
+    same((kinds[:4], kinds[2:].replace("WS", "").strip("A")), ("SSWS", ""), "the calls of a collection")
 
 
 def test_a_machine_without_power_keeps_what_was_replied():

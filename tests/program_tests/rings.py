@@ -86,7 +86,7 @@ def erases_of(calls):
 
 
 def cut(was, commands, calls, nightly):
-    """Cuts the power in a write of these commands, repairs what is left, and tells which commands are still to be carried out."""
+    """Cuts the power during a write of these commands, repairs the image, and returns the commands that are left to do."""
     writes, answered = [], 0
     for number, call in enumerate(calls):
         answered += call[0] == "A"
@@ -101,12 +101,12 @@ def cut(was, commands, calls, nightly):
     if run("dump", "step") == run("dump", "image"):
         return commands[answered:]
     run("run", "step", "-", script=commands[answered].encode())
-    same(run("dump", "image"), run("dump", "step"), f"the database behind a cut of {commands[answered]!r}")
+    same(run("dump", "image"), run("dump", "step"), f"the database after a cut of {commands[answered]!r}")
     return commands[answered + 1:]
 
 
 def carry_out(commands, replies, is_cut, nightly=0):
-    """Carries commands out, perhaps with a power cut in between, and tells the most sectors that one of them erased."""
+    """Carries out commands, perhaps with a power cut, and returns the most sectors that one of them erased."""
     was = read("image") if is_cut else b""
     said, calls = calls_of("run", "image", "-", script="".join(commands).encode())
     same(said, replies, f"the replies to {commands[0]!r} and {len(commands) - 1} more")
@@ -133,7 +133,7 @@ def collect_where_pages_are_short(sectors):
 
 
 def live(ring, most, collects=False):
-    """Lives a year, in which no command erases more than so many sectors; with collections at night it is none by day."""
+    """Lives a year in which no command erases more than this many sectors; with collections at night, none by day."""
     random.seed(45)
     sectors = planned_image(ring)
     cuts = {*random.sample(range(1, DAYS), CUTS)}
@@ -178,7 +178,7 @@ class Scatter:
     """Writes files far from each other by commands of rows, so that no gap between them takes an extent of 64 pages."""
 
     def __init__(self):
-        # behind the catalog and its log, and the three relations behind them, which move
+        # after the catalog and its log, and the three relations after them, which move
         self.row, self.edge = 0, 3
 
     def rows(self, name, count):
@@ -189,7 +189,7 @@ class Scatter:
         return run("run", "image", "-", script=script.encode())
 
     def go_on(self, more):
-        """Copies d2, a sector each time, until the next pages begin so many whole sectors behind the last file that stays."""
+        """Copies d2, a sector each time, until the next pages begin this many whole sectors after the last file that stays."""
         while next_page() // 16 < self.edge + more:
             self.run(f"{self.rows('d2', 30)} REMOVE FROM d2;")
             if next_page() // 16 < self.edge + more:
@@ -206,7 +206,7 @@ def test_an_order_of_rows_needs_many_sectors():
     scatter.run("".join(Turns.made))
     same(run("plan", "image", "1440"), b"sectors needed 101 present 256\n", "the plan")
     for name in ("d0", "d1"):
-        # two copies, of which the second stays, and far behind it a log
+        # two copies, of which the second stays, and far after it a log
         scatter.go_on(2)
         last = scatter.row + 31
         scatter.stay(f"{scatter.rows(name, 32)} REMOVE FROM {name} WHERE minute < {last - 1}; PACK {name};")
@@ -217,7 +217,7 @@ def test_an_order_of_rows_needs_many_sectors():
     # as many rows as 32 pages hold
     scatter.stay(scatter.rows("d2", 1165 - int(rows) - int(removed)))
     sectors = scatter.edge + 3
-    same(any(read("image")[sectors * SECTOR:]), False, "that nothing is written behind these sectors")
+    same(any(read("image")[sectors * SECTOR:]), False, "that nothing is written beyond these sectors")
     write("image", read("image")[:sectors * SECTOR])
     # a collection finds no 64 pages in a row
     same(sectors, 32, "the sectors")

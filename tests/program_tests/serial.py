@@ -16,7 +16,7 @@ def open_pty():
 
 @contextlib.contextmanager
 def opened_pty():
-    """Both ends of a raw pty, which are closed behind."""
+    """Both ends of a raw pty, which are closed at the end."""
     near, far = open_pty()
     tty.setraw(far)
     try:

@@ -79,7 +79,7 @@ def test_missing_rights_are_told():
     os.chmod("closed/image", 0o666)
     os.chmod("closed", 0o711)
     said = launch("repo/antelope", "--sync", "run", "closed/image", "-", **nobody)
-    same(said, ("", lines_of("you may not read the directory closed, whose names --sync keeps"), 7), "a folder that may not be read")
+    same(said, ("", lines_of("you may not read the directory closed, which --sync needs"), 7), "a folder that may not be read")
 
 
 def test_a_wrong_length_is_told():
@@ -87,7 +87,7 @@ def test_a_wrong_length_is_told():
         length("image", size)
         told(10, f"image has {size} bytes, {why}: an image has 4 to 4,095 sectors of 4,096 bytes", *RUN)
     os.mkfifo("fifo")
-    told(10, "fifo is no file that keeps bytes", "run", "fifo", "-")
+    told(10, "fifo is not a regular file", "run", "fifo", "-")
 
 
 def test_what_stopped_a_run_is_told():
@@ -133,7 +133,7 @@ def test_a_repair_tells_which_relations_are_there_now():
     same(launch(tried.launcher, "repair", "image"), ("sound\n", lines_of("image now has no relation"), 0), "of none")
     run("run", "image", "-", script=SENSORS + b"INSERT (1) INTO n; CREATE INDEX n.v TYPE INLINE; CREATE RELATION m; INSERT (2) INTO n;")
     image = bytearray(read("image"))
-    # the last byte of the file that begins behind this name is the mark of the second row
+    # the last byte of the file that begins after this name is the mark of the second row
     place = image.index(b"T0") - 10 + 32 + 3
     image[place + 2] = 0
     write("image", image)
@@ -158,7 +158,7 @@ def test_a_limit_on_files_is_told_and_leaves_no_image():
     files("replies", "script", "small")
 
 
-# Signals and streams behind the launcher
+# Signals and streams through the launcher
 
 
 def test_signals_reach_the_program():
