@@ -19,6 +19,9 @@
  * The language is in docs/AQL.md. The database is the proved program `run`. Between calls it waits, on a stack of its own in
  * `memory`; it runs only inside these calls. The callbacks run on the caller's stack, and may wait. Nothing is allocated.
  *
+ * That the commands which were answered OK are in the flash while the database waits has been read off the program, and is
+ * tested. It is not proved: the contracts speak of the flash at the end of a run (docs/PROMISES.md, "In a firmware").
+ *
  * Each open database has its own struct, memory and flash. You may mix calls on several databases, and a callback may use
  * another database. But only one thread at a time may be inside these calls, on any database, and no interrupt handler.
  *
@@ -43,7 +46,7 @@ extern "C" {
 
 enum {
     SORACHEST_SECTOR = 4096,
-    SORACHEST_MEMORY = 104 * 1024,  /* bytes of memory, enough on every processor; fewer are refused */
+    SORACHEST_MEMORY = 96 * 1024,   /* bytes of memory, enough on every processor; fewer are refused */
     SORACHEST_THREAD_MEMORY = 2048, /* the same if a thread's own stack is used, see `wait` and `wake` */
     SORACHEST_MOST_COMMAND = 512,   /* bytes of a command; a longer one is refused with `no long` */
     SORACHEST_MOST_LINE = 299,      /* bytes of a line of a reply */

@@ -4,6 +4,7 @@ import contextlib
 import importlib.machinery
 import importlib.util
 import os
+import re
 import shutil
 import signal
 import subprocess
@@ -48,7 +49,8 @@ def processors(wanted=tuple(PACKAGES)):
     return found
 
 
-built = set()
+# what was linked by now, and the sizes of its parts
+built = {}
 OBJECTS = (("aarch64",), ("riscv64",), ("thumbv7em",), ("riscv32",), ("thumbv7em", "small"), ("thumbv7m",))
 FOR_COMPUTERS = ("x86_64",)
 
@@ -78,7 +80,7 @@ def build(processor, *what):
         ended = subprocess.run([f"{PORT}/build", processor, *what, "sizes"], stdout=subprocess.PIPE, stderr=subprocess.PIPE)
         same((ended.returncode, ended.stderr), (0, b""), f"the end of port/build {processor} {what}")
         print(ended.stdout.decode(), end="", flush=True)
-        built.add(name)
+        built[name] = {part: int(size) for part, size in re.findall(r"(\w[\w ]*) (\d+)", ended.stdout.decode().partition(": ")[2])}
     return name
 
 

@@ -1,8 +1,9 @@
 """What a board needs: memory and instructions."""
 import os
 import re
+import subprocess
 
-from .common import EXAMPLES, SECTOR, Pair, boot, build, chip_of, examples, image_of, linux, processors, read, same
+from .common import EXAMPLES, PORT, ROOT, SECTOR, Pair, boot, build, built, chip_of, examples, image_of, linux, processors, read, same
 
 
 def figures(board, *words, script=b""):
@@ -37,8 +38,45 @@ def measured():
     return [it for it in MEASURED if it[0] in found]
 
 
+MOST_RAM = 100 * 1024
+
+
+def deepest(board):
+    """The most bytes of stack that a board can take, by the calls in its machine code."""
+    out = os.environ.get("PORT_OUT", f"{PORT}/out")
+    told = subprocess.run([f"{PORT}/stack", f"{out}/{board}.elf"], stdout=subprocess.PIPE, check=True).stdout.decode()
+    return int(re.match(r"board_start takes (\d+) bytes", told)[1])
+
+
+def bounded():
+    """Of these the ones of which the compiler wrote the frames down; the toolchain compiles for 64-bit ARM by itself."""
+    return [it for it in measured() if it != ("aarch64",)]
+
+
+def test_the_stack_of_a_board_is_as_large_as_any_calls_need():
+    """So no input makes it overflow."""
+    for words in measured():
+        board = build(*words)
+        sizes = built[board]
+        same(sizes["stack"] + sizes["static data"] <= MOST_RAM, True, f"that {board} has at most {MOST_RAM} bytes of RAM")
+        if words in bounded():
+            most = deepest(board)
+            print(f"{board}: stack {most} bytes at most by its calls, and with static data {sizes['static data'] + most} of RAM")
+            same(most <= sizes["stack"], True, f"that {most} bytes fit into the stack of {board}, which has {sizes['stack']}")
+
+
+def test_the_memory_of_the_library_is_as_large_as_any_calls_need():
+    """The program is the same; the library's own calls and interrupts take what is left."""
+    lent = 1024 * int(re.search(r"SORACHEST_MEMORY = (\d+) \* 1024", read(f"{ROOT}/node/sorachest_node.h").decode())[1])
+    guard, heap, left = 64, 5 * 256 + 96, 2048
+    for words in bounded():
+        most = deepest(build(*words))
+        same(most + guard + heap + left <= lent, True, f"that {lent} bytes are enough on {words}, where calls take {most}")
+
+
 def test_every_form_fits_into_the_memory_of_a_board():
     for words in measured():
+        bound = deepest(build(*words)) if words in bounded() else MOST_RAM
         board, most = build(*words, "measure"), {"stack": 0, "heap": 0}
         runs = [("run", f"{EXAMPLES}/{it}.aql") for it in examples()]
         runs += [("gen", "7", "100"), ("plan", "100"), ("dump",), ("look",), ("check",), ("repair",), ("collect",)]
@@ -47,7 +85,8 @@ def test_every_form_fits_into_the_memory_of_a_board():
         for form, *given in runs:
             told = figures(board, form, "chip", *given)
             most = {it: max(most[it], told[it]) for it in most}
-        print(f"{' '.join(words)}: stack {most['stack']} bytes at most, of the heap {most['heap']}")
+        print(f"{' '.join(words)}: of the stack {most['stack']} bytes were used, of the heap {most['heap']}")
+        same(most["stack"] <= bound, True, f"that {most['stack']} bytes of stack are no more than {bound}")
         os.remove("chip")
 
 

@@ -6,6 +6,7 @@ from library_tests.common import PROGRAM as PROVED
 
 HERE = f"{ROOT}/tests/node_tests"
 NODE = f"{ROOT}/node"
+TARGETS = ("aarch64", "riscv32", "riscv64", "thumbv7em", "thumbv7m", "x86_64")
 BUILT = f"{NODE}/out/{os.uname().machine}"
 LIBRARY = f"{BUILT}/lib/libsorachest_node.a"
 PROGRAM = os.environ.get("SORACHEST_PROGRAM", PROVED)

@@ -4,7 +4,7 @@ import re
 import shutil
 
 from library_tests.common import ROOT, Skipped, ended, needs, read, same, write
-from node_tests.common import BUILT, NODE
+from node_tests.common import BUILT, NODE, TARGETS
 
 USER = b"""#include <sorachest_node.h>
 int main(void) { return sorachest_version() != SORACHEST_VERSION; }
@@ -22,7 +22,9 @@ def test_the_header_s_calls_are_the_only_names():
     needs("nm")
     declared = set(re.findall(r"^(?!static|typedef)\w.*\b(sorachest_\w+)\(.*;$", read(f"{NODE}/sorachest_node.h").decode(), re.M))
     same(len(declared), 22, "how many calls there are")
-    for target in targets():
+    for target in TARGETS:
+        if target not in targets():
+            same(ended([f"{NODE}/build", target])[::2], (0, ""), f"the end of node/build {target}")
         status, told, said = ended(["nm", "--extern-only", f"{NODE}/out/{target}/lib/sorachest_node.o"])
         same((status, said), (0, ""), f"the end of nm for {target}")
         names = {(kind, name) for kind, name in re.findall(r"(\w) (\w+)$", told.decode(), re.M)}
