@@ -13,7 +13,7 @@ use afl_base::{Failed, FileId, Files, IndexId, RelationId};
 use catalog::{Catalog, IndexEntry, catalog_file, rows_file, tree_file};
 use db_model::{Ident, IndexKind};
 use stored::Half;
-use stored_mend::{Mended, Report, SIZE_OF_VERSION_1, whole_catalog};
+use stored_mend::{Mended, Report, SIZE_OF_VERSION_1, may_fill, whole_catalog};
 
 /// Adds to a report what `mend_database` would put right where it has room, in its order. The files are ones of
 /// which `may_be_cut` answers that a cut can have left them. They stay.
@@ -74,11 +74,7 @@ fn foretell_half<V: Files>(
                 report.add(Mended::Attribute(name));
             }
         }
-        Half::AddingRow(slot) => {
-            if let Some(name) = relation_name(catalog, *slot) {
-                report.add(Mended::Row(name));
-            }
-        }
+        Half::AddingRow(slot) => return foretell_row(files, catalog, *slot, report),
         Half::Treeless(slot) => report_index(catalog, *slot, report),
         Half::LoneTree(slot) => report_tree(*slot, report),
         Half::AddingKey(relation) => return foretell_trees(files, catalog, *relation, report),
@@ -125,6 +121,64 @@ fn index_names(catalog: &Catalog, entry: &IndexEntry) -> Option<(Ident, Ident)> 
             None => None,
         },
         _ => None,
+    }
+}
+
+// A row that is there in part: where it is filled, its key goes into each tree of the relation.
+fn foretell_row<V: Files>(
+    files: &mut V,
+    catalog: &Catalog,
+    slot: u16,
+    report: &mut Report,
+) -> Result<(), Failed>
+    requires relations { length catalog.now.relations ≡ 8 }
+    ensures frame { OnlyReads V.state V.lent V.reads V.faults files.old files.new result }
+{
+    let (Some(id), Some(Some(schema))) = (
+        RelationId::new(slot),
+        catalog.relations.get(slot as usize),
+    ) else {
+        return Ok(());
+    };
+    report.add(Mended::Row(schema.name));
+    let Some(file) = files.find(rows_file(id)) else {
+        return Ok(());
+    };
+    if may_fill(files, file, &schema.attributes, catalog.version)? {
+        foretell_keys(files, catalog, slot, report);
+    }
+    Ok(())
+}
+
+// All trees of a relation.
+fn foretell_keys<V: Files>(files: &V, catalog: &Catalog, relation: u16, report: &mut Report) {
+    for slot in 0..8u16 {
+        foretell_key(files, catalog, relation, slot, report);
+    }
+}
+
+fn foretell_key<V: Files>(
+    files: &V,
+    catalog: &Catalog,
+    relation: u16,
+    slot: u16,
+    report: &mut Report,
+) {
+    let (Some(id), Some(Some(entry))) = (IndexId::new(slot), catalog.indexes.get(slot as usize))
+    else {
+        return;
+    };
+    if entry.kind != IndexKind::MaxHeap
+        || entry.relation.number() != relation
+        || files.find(tree_file(id)).is_none()
+    {
+        return;
+    }
+    if let Some((relation, attribute)) = index_names(catalog, entry) {
+        report.add(Mended::Tree {
+            relation,
+            attribute,
+        });
     }
 }
 

@@ -13,6 +13,7 @@ mod grown;
 mod indexes;
 mod judging;
 mod mark;
+mod places;
 mod reading;
 mod relations;
 mod rows;

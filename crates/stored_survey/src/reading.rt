@@ -2,44 +2,60 @@
 
 #![tactic(auto)]
 
-ghost use Rattle.std.specs.Prelude.{◌≡◌, ◌≤◌, ◌<◌, IfOk, IfSome, length};
-ghost use Rattle.afl_base.specs.Files.{IsLive, size_at};
+ghost use Rattle.std.specs.Prelude.{◌≡◌, ◌==◌, ◌≤◌, ◌<◌, ◌*◌, ◌+◌, IfNone, IfOk, IfSome, IsTrue, if◌then◌else◌, length, slice_range};
+ghost use Rattle.std.specs.List.{list_any};
 ghost use Rattle.afl_base.specs.Keeping.{OnlyReads};
+ghost use Rattle.db_model.specs.Catalog.{catalog_of};
+ghost use Rattle.stored.specs.CutTables.{slot_bytes};
+ghost use Rattle.stored.specs.Mended.{has_time, is_time_domain, whole_catalog};
+ghost use Rattle.stored_mend.specs.Mending.{IsWholeCatalog};
+ghost use Rattle.stored_survey.specs.Asked.{AreReadSlots, HasNoHalf, IsReadAs};
 
 use afl_base::{Failed, FileId, Files};
-use catalog::{Catalog, IndexEntry};
+use catalog::{Catalog, load_indexes};
 use db_model::{Attribute, Domain, Schema};
-use stored_mend::{SIZE_OF_VERSION_1, index_in, mended_relation};
+use stored_mend::{SIZE_OF_VERSION_1, mended_relation};
 
 /// The relations and indexes of a catalog that has all slots, as they are read: a slot without a name has
-/// none, and an attribute behind their number is none. None where a slot is no such one.
+/// none, and an attribute behind their number is none. None where no cut leaves such slots.
 pub fn read_catalog<V: Files>(files: &mut V, cat: FileId) -> Result<Option<Catalog>, Failed>
-    requires live { IsLive (V.state files.old).files cat }
-    requires size { 1472 ≤ size_at (V.state files.old).files cat }
+    requires whole { IsWholeCatalog (V.state files.old).files cat }
+    ensures read { IsTrue (V.state files.old).tells → IfOk result
+        (λ r. IfSome r (λ catalog. IsReadAs (V.state files.old).files catalog)) }
+    ensures none { IsTrue (V.state files.old).tells → IfOk result
+        (λ r. IfNone r (HasNoHalf (V.state files.old).files)) }
     ensures relations { IfOk result (λ r. IfSome r (λ catalog. length catalog.relations ≡ 8)) }
     ensures indexes { IfOk result (λ r. IfSome r (λ catalog. length catalog.indexes ≡ 8)) }
     ensures frame { OnlyReads V.state V.lent V.reads V.faults files.old files.new result }
 {
-    let Some(relations) = read_relations(files, cat)? else {
-        return Ok(None);
-    };
-    let Some(indexes) = read_indexes(files, cat)? else {
-        return Ok(None);
-    };
-    let version = version_of(files.size(cat), &relations);
-    Ok(Some(Catalog {
-        version,
-        relations,
-        indexes,
-    }))
+    let read = read_relations(files, cat)?;
+    match read {
+        None => Ok(None),
+        Some(relations) => {
+            let loaded = load_indexes(files, cat, &relations)?;
+            match loaded {
+                Err(_) => Ok(None),
+                Ok(indexes) => Ok(Some(Catalog {
+                    version: version_of(files.size(cat), &relations),
+                    relations,
+                    indexes,
+                })),
+            }
+        }
+    }
 }
 
 fn read_relations<V: Files>(
     files: &mut V,
     cat: FileId,
 ) -> Result<Option<[Option<Schema>; 8]>, Failed>
-    requires live { IsLive (V.state files.old).files cat }
-    requires size { 1472 ≤ size_at (V.state files.old).files cat }
+    requires whole { IsWholeCatalog (V.state files.old).files cat }
+    ensures read { IsTrue (V.state files.old).tells → IfOk result (λ r. IfSome r (λ relations.
+        relations ≡ (catalog_of (whole_catalog (V.state files.old).files)).relations)) }
+    ensures slots { IsTrue (V.state files.old).tells → IfOk result (λ r. IfSome r (λ relations.
+        AreReadSlots (whole_catalog (V.state files.old).files) relations)) }
+    ensures none { IsTrue (V.state files.old).tells → IfOk result
+        (λ r. IfNone r (HasNoHalf (V.state files.old).files)) }
     ensures eight { IfOk result (λ r. IfSome r (λ relations. length relations ≡ 8)) }
     ensures frame { OnlyReads V.state V.lent V.reads V.faults files.old files.new result }
 {
@@ -56,9 +72,10 @@ fn read_relations<V: Files>(
 
 /// The bytes of a relation slot.
 pub fn relation_bytes<V: Files>(files: &mut V, cat: FileId, slot: u16) -> Result<[u8; 176], Failed>
-    requires live { IsLive (V.state files.old).files cat }
-    requires size { 1472 ≤ size_at (V.state files.old).files cat }
+    requires whole { IsWholeCatalog (V.state files.old).files cat }
     requires slot { slot < 8 }
+    ensures bytes { IsTrue (V.state files.old).tells → IfOk result
+        (λ bytes. bytes ≡ slot_bytes (V.state files.old).files slot) }
     ensures length { IfOk result (λ bytes. length bytes ≡ 176) }
     ensures frame { OnlyReads V.state V.lent V.reads V.faults files.old files.new result }
 {
@@ -67,45 +84,54 @@ pub fn relation_bytes<V: Files>(files: &mut V, cat: FileId, slot: u16) -> Result
     Ok(bytes)
 }
 
-fn read_indexes<V: Files>(
-    files: &mut V,
-    cat: FileId,
-) -> Result<Option<[Option<IndexEntry>; 8]>, Failed>
-    requires live { IsLive (V.state files.old).files cat }
-    requires size { 1472 ≤ size_at (V.state files.old).files cat }
-    ensures eight { IfOk result (λ r. IfSome r (λ indexes. length indexes ≡ 8)) }
-    ensures frame { OnlyReads V.state V.lent V.reads V.faults files.old files.new result }
+// Version 2 also where a relation wants it and the mark is not there yet.
+fn version_of(size: u32, relations: &[Option<Schema>]) -> u8
+    requires size { 1472 ≤ size }
+    ensures { result ≡ (if list_any has_time relations.now then 2 else if size == 1472 then 1 else 2) }
 {
-    let mut indexes = [None; 8];
-    for slot in 0..8u16 {
-        let mut bytes = [0; 8];
-        files.read(cat, 1408 + 8 * u32::from(slot), &mut bytes)?;
-        match index_in(&bytes) {
-            Some(index) => indexes[slot as usize] = index,
-            None => return Ok(None),
-        }
+    if have_time(relations) {
+        return 2;
     }
-    Ok(Some(indexes))
+    if size == SIZE_OF_VERSION_1 { 1 } else { 2 }
 }
 
-// Version 2 also where a relation wants it and the mark is not there yet.
-fn version_of(size: u32, relations: &[Option<Schema>]) -> u8 {
-    if size > SIZE_OF_VERSION_1 || relations.iter().any(has_time) {
-        2
-    } else {
-        1
+// Whether one of some relations has an attribute that only version 2 has.
+fn have_time(relations: &[Option<Schema>]) -> bool
+    ensures { result ≡ list_any has_time relations.now }
+{
+    for relation in relations {
+        if has_time(relation) {
+            return true;
+        }
     }
+    false
 }
 
 /// Whether a relation has an attribute that only version 2 has.
-pub fn has_time(relation: &Option<Schema>) -> bool {
+pub fn has_time(relation: &Option<Schema>) -> bool
+    ensures { result ≡ has_time relation.now }
+{
     match relation {
-        Some(schema) => schema.attributes.as_slice().iter().any(is_time),
+        Some(schema) => has_a_time(schema.attributes.as_slice()),
         None => false,
     }
 }
 
+/// Whether one of some attributes is such a one.
+pub fn has_a_time(attributes: &[Attribute]) -> bool
+    ensures { result ≡ list_any (λ a. is_time_domain a.domain) attributes.now }
+{
+    for attribute in attributes {
+        if is_time(attribute) {
+            return true;
+        }
+    }
+    false
+}
+
 /// Whether only version 2 has the attribute.
-pub fn is_time(attribute: &Attribute) -> bool {
+pub fn is_time(attribute: &Attribute) -> bool
+    ensures { result ≡ is_time_domain attribute.now.domain }
+{
     attribute.domain == Domain::Time
 }
