@@ -64,7 +64,7 @@ def test_a_check_reads_alone_and_tells_what_a_repair_would_do():
     place = image.index(b"T0") - 10 + 32 + 3 * 5
     image[place:place + 2] = b"\x07\x01"
     write("image", image)
-    same(run("check", "image"), b"row of n taken back\nto be repaired\n", "what is to come")
+    same(run("check", "image"), b"row of n taken back\nindex on n.v built anew\nto be repaired\n", "what is to come")
     unchanged("image", image)
     same(run("check", "image", limit="exec >/dev/full", status=5), b"", "where it cannot be said")
     unchanged("image", image)
@@ -107,7 +107,7 @@ def test_a_row_that_was_cut_is_taken_back():
     image[place:place + 2] = b"\x07\x01"
     write("image", image)
     same(run("run", "image", "/dev/null", status=6), b"no image 19 0\n", "the image as it was cut")
-    same(repaired("image", 3, 3)[0], ["row of n taken back", "repaired"], "what was said")
+    same(repaired("image", 3, 3)[0], ["row of n taken back", "index on n.v built anew", "repaired"], "what was said")
 
 
 def test_killed_loads_are_repaired():

@@ -137,7 +137,7 @@ def test_a_repair_tells_which_relations_are_there_now():
     place = image.index(b"T0") - 10 + 32 + 3
     image[place + 2] = 0
     write("image", image)
-    relations = ("n (v INT) rows 1 removed 0 slots left 32767", "m () rows 0 removed 0 slots left 32768")
+    relations = ("n (v INT) rows 1 removed 1 slots left 32766", "m () rows 0 removed 0 slots left 32768")
     now = lines_of(*(f"image now has relation {it}" for it in relations))
     same(launch(tried.launcher, "repair", "image"), ("row of n taken back\nrepaired\n", now, 0), "of two")
     same(launch(tried.launcher, "check", "image"), ("sound\n", "", 0), "a check of what is sound")

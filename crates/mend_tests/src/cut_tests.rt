@@ -1,8 +1,8 @@
 ghost use Rattle.std.specs.Prelude.{◌≡◌, None, OnOk};
 
 use crate::database::{
-    ROWS, emptied_relation, first_relation, no_relation, one_index, one_relation, put_catalog,
-    put_growing, six_attributes,
+    ROWS, emptied_relation, emptied_up_to_a_name, first_relation, no_relation, one_index,
+    one_relation, put_catalog, put_growing, six_attributes,
 };
 use crate::mended::{byte_at, is_mended, size_named};
 use afl_base::{FileError, Files};
@@ -135,6 +135,21 @@ fn the_name_longitude_that_is_cut_to_a_keyword_is_taken_back(rt: HostRuntime) {
     assert!(rt; takes_a_name_back(&mut files) == Ok(true));
 }
 
+fn empties_a_slot_up_to_a_name<V: Files>(files: &mut V) -> Result<bool, FileError>
+    requires idle { (V.state files.old).draft ≡ None }
+{
+    put_catalog(files, &emptied_up_to_a_name(b"itude"), 1480)?;
+    put_growing(files, b"T0", b"")?;
+    let mended = is_mended(files, b"relation of slot 0 removed\n")?;
+    Ok(mended && byte_at(files, b"CAT", 128)? == Some(0))
+}
+
+#[test]
+fn a_slot_that_is_empty_up_to_the_middle_of_a_name_is_emptied(rt: HostRuntime) {
+    let mut files: PlainFiles<4064> = PlainFiles::new();
+    assert!(rt; empties_a_slot_up_to_a_name(&mut files) == Ok(true));
+}
+
 fn takes_an_index_back<V: Files>(files: &mut V) -> Result<bool, FileError>
     requires idle { (V.state files.old).draft ≡ None }
 {
@@ -182,20 +197,21 @@ fn a_tree_that_the_catalog_does_not_ask_for_is_removed(rt: HostRuntime) {
     assert!(rt; removes_a_tree(&mut files) == Ok(true));
 }
 
-fn takes_a_row_back<V: Files>(files: &mut V) -> Result<bool, FileError>
+fn fills_a_row<V: Files>(files: &mut V) -> Result<bool, FileError>
     requires idle { (V.state files.old).draft ≡ None }
 {
     put_catalog(files, &one_relation(2), 1480)?;
     put_growing(files, b"T0", &ROWS[..11])?;
     let mended = is_mended(files, b"row of r taken back\n")?;
-    let kept = byte_at(files, b"T0", 5)? == Some(5) && byte_at(files, b"T0", 9)? == Some(1);
-    Ok(mended && kept && size_named(files, b"T0") == Some(10))
+    let kept = byte_at(files, b"T0", 5)? == Some(5) && byte_at(files, b"T0", 10)? == Some(7);
+    let removed = byte_at(files, b"T0", 14)? == Some(3);
+    Ok(mended && kept && removed && size_named(files, b"T0") == Some(15))
 }
 
 #[test]
-fn a_row_that_is_not_whole_is_taken_back(rt: HostRuntime) {
+fn a_row_that_is_not_whole_is_filled_to_a_removed_one(rt: HostRuntime) {
     let mut files: PlainFiles<4064> = PlainFiles::new();
-    assert!(rt; takes_a_row_back(&mut files) == Ok(true));
+    assert!(rt; fills_a_row(&mut files) == Ok(true));
 }
 
 fn builds_a_tree<V: Files>(files: &mut V) -> Result<bool, FileError>

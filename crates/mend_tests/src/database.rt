@@ -62,6 +62,20 @@ pub fn emptied_relation() -> [u8; 1480] {
     bytes
 }
 
+/// The slot of a relation with seven INTs that was being emptied: it is zero up to the fifth byte of the last
+/// attribute, whose name goes on so.
+pub fn emptied_up_to_a_name(shown: &[u8]) -> [u8; 1480] {
+    let mut bytes = no_relation();
+    for (at, byte) in shown.iter().enumerate() {
+        if at < 12 {
+            bytes[128 + at] = *byte;
+        }
+    }
+    bytes[140] = 1;
+    bytes[160] = 7;
+    bytes
+}
+
 /// The same with a MAXHEAP index on r.k in slot 0.
 pub fn one_index() -> [u8; 1480] {
     let mut bytes = one_relation(2);

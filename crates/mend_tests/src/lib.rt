@@ -9,4 +9,12 @@ mod database;
 #[cfg(test)]
 mod mended;
 #[cfg(test)]
+mod row_tests;
+#[cfg(test)]
+mod rows;
+#[cfg(test)]
 mod strange_tests;
+#[cfg(test)]
+mod tree_tests;
+#[cfg(test)]
+mod trees;

@@ -1,8 +1,8 @@
 ghost use Rattle.std.specs.Prelude.{◌≡◌, None, OnOk};
 
 use crate::database::{
-    ROWS, emptied_relation, first_relation, no_relation, one_index, one_relation, put_catalog,
-    put_growing,
+    ROWS, emptied_relation, emptied_up_to_a_name, first_relation, no_relation, one_index,
+    one_relation, put_catalog, put_growing,
 };
 use afl_base::{FileError, Files};
 use afl_sim::PlainFiles;
@@ -96,6 +96,23 @@ fn a_slot_that_has_lost_its_name_alone_is_strange(rt: HostRuntime) {
 #[test]
 fn a_slot_that_was_being_emptied_without_its_rows_is_strange(rt: HostRuntime) {
     assert!(rt; is_refused(&emptied_relation(), 1480, None, None));
+}
+
+#[test]
+fn an_emptied_slot_with_the_end_of_no_name_is_strange(rt: HostRuntime) {
+    assert!(rt; is_refused(&emptied_up_to_a_name(b"it?de"), 1480, Some(b""), None));
+}
+
+#[test]
+fn an_emptied_slot_with_the_end_of_too_long_a_name_is_strange(rt: HostRuntime) {
+    assert!(rt;
+        is_refused(
+            &emptied_up_to_a_name(b"itudeitudeit"),
+            1480,
+            Some(b""),
+            None
+        )
+    );
 }
 
 #[test]

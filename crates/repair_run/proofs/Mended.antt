@@ -19,6 +19,8 @@ use Rattle.sound_image.proofs.Mounted.{mounted_files}
 use Rattle.sound_image.proofs.OneBase.{one_base, own_files, sound_base, sound_is, table_mends}
 use Rattle.stored.specs.Mended.{mended_base}
 use Rattle.stored.specs.Sound.{BreaksFirst, IsSoundTable}
+use Rattle.stored_mend.specs.Mending.{IsPutRight}
+use Rattle.stored_mend.proofs.PutRight.{put_right_same}
 use Rattle.repair_run.specs.Findings.{IsMendable}
 use Rattle.repair_run.specs.Repairs.{Leaves, Repairs, database_in, status_after}
 use Rattle.repair_run.specs.declared.came.Came.{Came}
@@ -50,14 +52,18 @@ mended_files_base : (old new : List ℕ) → IsMended old new → ImageReadsAs o
 mended_files_base old new m = record { files = files_of_image new; mends_to = table_mends old new m.files m.mends m.kept m.only; is = refl }
 
 -- a sound image stands for the database that its files mend to
-pub left_repaired : (old mid late new : List ℕ) → (IsSound old → ⊥) → IsMended old mid → database_in late ≡ database_in mid → new ≡ late → IsSound late → Leaves old new (Ok Repaired)
+pub left_repaired : (old mid late new : List ℕ) → (IsSound old → ⊥) → IsMended old mid → IsPutRight (database_in mid) (database_in late) → new ≡ late → IsSound late → Leaves old new (Ok Repaired)
 left_repaired old mid late new unsound m kept same sound =
     let b = mended_files_base old mid m in
     let sound_now : IsSound new = subst IsSound (sym same) sound in (
       unsound,
       inr (m.files, m.mends),
       sound_now,
-      record { files = b.files; mends_to = b.mends_to; is = sym (b.is ∙ sym kept ∙ ap database_in (sym same) ∙ sound_base new sound_now) },
+      record {
+        files = b.files;
+        mends_to = b.mends_to;
+        is = subst (λ db. IsPutRight db (base new)) (sym b.is) (subst (IsPutRight (database_in mid)) (ap database_in (sym same) ∙ sound_base new sound_now) kept);
+      },
     )
 
 -- ---- a volume over an image
@@ -84,7 +90,7 @@ judged_bad image mid state judged mounted same unbroken says =
 -- the database in the files of one that is mended
 
 pub volume_base : (old new : List ℕ) (before after : State) (sectors : ℕ) → length new ≡ 4096 * sectors → before ≡ mounted_state old
-    → mended_base after.files ≡ mended_base before.files → broken_image new ≡ None → HasEach after new → HasOnly after new → database_in new ≡ database_in old
+    → IsPutRight (mended_base before.files) (mended_base after.files) → broken_image new ≡ None → HasEach after new → HasOnly after new → IsPutRight (database_in old) (database_in new)
 volume_base old new before after sectors size is kept sound each only =
     let m : MendsToFiles new after.files = record {
       named = files_of new;
@@ -92,25 +98,26 @@ volume_base old new before after sectors size is kept sound each only =
       each = each;
       only = only;
     } in
-    one_base new (files_of_image new) after.files sectors size (own_files new sound) m ∙ kept ∙ ap (λ (s : State). mended_base s.files) is ∙ ap mended_base (mounted_files old)
+    subst (IsPutRight (database_in old)) (sym (one_base new (files_of_image new) after.files sectors size (own_files new sound) m))
+    (subst (λ db. IsPutRight db (mended_base after.files)) (ap (λ (s : State). mended_base s.files) is ∙ ap mended_base (mounted_files old)) kept)
 
 -- ---- laws
 
 left_there : (old new : List ℕ) (came : Result Came Hindrance) (db : Database) (sectors : ℕ) → length old ≡ 4096 * sectors → ImageReadsAs old (λ mended. mended ≡ db)
-    → Leaves old new came → 0 ≡ status_after came → IsSound new × (base new ≡ db)
+    → Leaves old new came → 0 ≡ status_after came → IsSound new × IsPutRight db (base new)
 left_there old new (Ok Sound) db sectors size m l e =
     let same : new ≡ old = l.1 in
-    (subst IsSound (sym same) l.0, ap base same ∙ sound_is old db sectors size l.0 m)
+    (subst IsSound (sym same) l.0, put_right_same db (base new) (ap base same ∙ sound_is old db sectors size l.0 m))
 left_there old new (Ok Repaired) db sectors size m l e =
     let r = l.3 in
-    (l.2, r.is ∙ one_base old r.files m.files sectors size r.mends_to m.mends_to ∙ m.is)
+    (l.2, subst (λ d. IsPutRight d (base new)) (one_base old r.files m.files sectors size r.mends_to m.mends_to ∙ m.is) r.is)
 left_there old new (Ok (Strange bad)) db sectors size m l e = absurd (omega (arith, e))
 left_there old new (Err (Spaceless need)) db sectors size m l e = absurd (omega (arith, e))
 left_there old new (Err (Unsettled bad)) db sectors size m l e = absurd (omega (arith, e))
 left_there old new (Err Failed) db sectors size m l e = absurd (omega (arith, e))
 
 pub repaired_base : (old new : List ℕ) (held now : Option (List ℕ)) (db : Database) (sectors : ℕ) → length old ≡ 4096 * sectors → ImageReadsAs old (λ mended. mended ≡ db)
-    → Repairs 0 old new held now → IsSound new × (base new ≡ db)
+    → Repairs 0 old new held now → IsSound new × IsPutRight db (base new)
 repaired_base old new held now db sectors size m r = ⊎_elim
     (λ (all : (0 ≡ status_after r.came) × _). left_there old new r.came db sectors size m r.leaves all.0)
     (λ (less : (0 ≡ 5) × _). absurd (let five : 0 ≡ 5 = less.0 in omega (arith, five)))

@@ -10,6 +10,7 @@ use Rattle.run_model.specs.Runs.{image_line}
 use Rattle.sound_image.specs.Images.{IsFirstBroken, IsSound, base, files_of_image}
 use Rattle.sound_image.specs.Mending.{ImageReadsAs}
 use Rattle.stored.specs.Mended.{mended_base}
+use Rattle.stored_mend.specs.Mending.{IsPutRight}
 use Rattle.stored_mend.specs.Report.{report_text}
 use Rattle.stored_mend.specs.declared.report.Mended.{Mended}
 use Rattle.repair_run.specs.Findings.{IsMendable}
@@ -47,11 +48,11 @@ pub record IsLeftStrange (old new : List ℕ) (bad : BadImage) : Type 0 where
   pub first : IsFirstBroken old bad.rule bad.place
 
 -- what is left of an image: it is sound, and as it was; it was not sound, and is, and stands for the database that it
--- mended to; it is as it was, and this is its first broken rule; or the repair came to no end. It is written only where it is
+-- mended to, put right; it is as it was, and this is its first broken rule; or the repair came to no end. It is written only where it is
 -- not sound, and its files can be put right
 abbrev pub Leaves : (old new : List ℕ) → Result Came Hindrance → Type 0
 Leaves old new (Ok Sound) = IsSound old × (new ≡ old)
-Leaves old new (Ok Repaired) = (IsSound old → ⊥) × IsMendable old × IsSound new × ImageReadsAs old (λ db. base new ≡ db)
+Leaves old new (Ok Repaired) = (IsSound old → ⊥) × IsMendable old × IsSound new × ImageReadsAs old (λ db. IsPutRight db (base new))
 Leaves old new (Ok (Strange bad)) = IsLeftStrange old new bad
 Leaves old new (Err (Spaceless need)) = (IsSound old → ⊥) × IsMendable old
 Leaves old new (Err (Unsettled bad)) = (IsSound old → ⊥) × IsMendable old

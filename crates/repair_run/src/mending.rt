@@ -2,6 +2,7 @@ ghost use Rattle.std.specs.Prelude.{◌≡◌, ◌≤◌, ◌*◌, Err, IsTrue, 
 ghost use Rattle.afl_base.specs.Causes.{Rose};
 ghost use Rattle.coffee_volume.specs.Mounting.{mounted_state};
 ghost use Rattle.repair_run.specs.Repairs.{database_in};
+ghost use Rattle.stored_mend.specs.Mending.{IsPutRight};
 ghost use Rattle.repair_run.specs.declared.came.Hindrance.TheVariants.{Failed as FaultOfFlash};
 
 use crate::came::Hindrance;
@@ -10,11 +11,12 @@ use coffee_volume::{Unlisted, Volume, list};
 use flash_views::Handed;
 use stored_mend::{Report, mend_database};
 
-/// Puts the database of an image right whose files are sound: they mend to the same database then.
+/// Puts the database of an image right whose files are sound: they mend to the same database then, but for what putting
+/// right may change in it.
 #[inline(never)]
 pub fn mend_image<F: Flash>(flash: &mut F, report: &mut Report) -> Result<(), Hindrance>
     ensures base { IsTrue F.tells
-        → OnOk result (database_in (F.image flash.new) ≡ database_in (F.image flash.old)) }
+        → OnOk result (IsPutRight (database_in (F.image flash.old)) (database_in (F.image flash.new))) }
     ensures size { length (F.image flash.new) ≡ length (F.image flash.old) }
     ensures lent { F.lent flash.new ≡ F.lent flash.old }
     ensures later { F.faults flash.old ≤ F.faults flash.new }
@@ -37,7 +39,7 @@ fn mend_volume<F: Flash>(volume: &mut Volume<F>, report: &mut Report) -> Result<
         → files.state volume.old ≡ mounted_state (files.state volume.old).store }
     requires sectors { (n : ℕ) × (length (⟦<Volume<F> as Files>⟧.state volume.old).store ≡ 4096 * n) }
     ensures base { let files = ⟦<Volume<F> as Files>⟧ in IsTrue (files.state volume.old).tells → OnOk result
-        (database_in (files.state volume.new).store ≡ database_in (files.state volume.old).store) }
+        (IsPutRight (database_in (files.state volume.old).store) (database_in (files.state volume.new).store)) }
     ensures size { let files = ⟦<Volume<F> as Files>⟧ in
         length (files.state volume.new).store ≡ length (files.state volume.old).store }
     ensures lent { ⟦<Volume<F> as Files>⟧.lent volume.new ≡ ⟦<Volume<F> as Files>⟧.lent volume.old }

@@ -22,7 +22,7 @@ use stored_mend::Report;
 ///
 /// | status | comes |
 /// |---|---|
-/// | 0 | the image was sound: `sound` was written, and it is as it was; or it was not, and is now, and stands for the database that it mended to: a line was written for each thing that was put right in its database, and `repaired` |
+/// | 0 | the image was sound: `sound` was written, and it is as it was; or it was not, and is now, and stands for the database that it mended to, in which a relation may have one removed row more, and an index that had a tree may be gone: a line was written for each thing that was put right in its database, and `repaired` |
 /// | 3 | the flash has no room for what is to be put right, and `no space N` was written |
 /// | 4, 5 | only where the flash, the sink counted a fault |
 /// | 6 | the image is not sound, and no cut leaves such a one: `no image RULE PLACE` was written |

@@ -126,16 +126,6 @@ kept_tree old new i c = record {
   tells = c.tells;
 }
 
-pub kept_rows : (old new : State) (k : ℕ) (schema : Schema) → ChangesOne old new (rows_file k)
-    → (IsTrue old.tells → get_or (mended_catalog old.files).relations k None ≡ Some schema)
-    → (IsTrue old.tells → AreSameRows old.files new.files (rows_file k) schema.attributes) → KeepsBase old new
-kept_rows old new k schema c is same = record {
-  catalog = bytes_stay old new (rows_file k) catalog_file c (catalog_no_rows k);
-  base = λ told. rows_keep old new k schema c (is told) (same told);
-  draft = c.draft;
-  tells = c.tells;
-}
-
 -- a catalog of a version's size is whole
 pub sized_whole : (files : Table) → HasCatalogSize files → whole_catalog files ≡ catalog_bytes_in files
 sized_whole files sized = by_file (file_named catalog_file files) refl

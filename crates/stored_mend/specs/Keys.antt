@@ -1,10 +1,14 @@
 -- The keys of an index in a file of rows.
-use Rattle.std.specs.Prelude.{◌≡◌, ℕ, ℤ, List, length, ◌≤◌, ◌<◌, IsTrue}
-use Rattle.afl_base.specs.declared.kind.Kind.TheVariants.{Doubling}
-use Rattle.afl_base.specs.Files.{Becomes, IsNamed, State, Table, bytes_at, file_at}
+use Rattle.std.specs.Prelude.{◌≡◌, ℕ, List, Option, Some, None, get_or, length, slice_get, take, true, ◌≤◌, ◌<◌}
+use Rattle.afl_base.specs.Files.{IsNamed, State, Table, bytes_at}
 use Rattle.afl_base.specs.KeyColumn.{HasField, IsWidth}
 use Rattle.afl_base.specs.declared.key_column.KeyColumn.{KeyColumn}
-use Rattle.index_tree.specs.Trees.{IsTreeOf}
+use Rattle.catalog.specs.declared.types.IndexEntry.{IndexEntry}
+use Rattle.db_model.specs.declared.schemas.Attribute.{Attribute}
+use Rattle.db_model.specs.declared.schemas.Schema.{Schema}
+use Rattle.db_model.specs.Row.{fields_length, row_length, slots_in_bytes, width}
+use Rattle.db_model.specs.Step.{allows}
+use Rattle.space_model.specs.FileNames.{rows_file}
 
 -- numbers of 2, 4 or 8 bytes stand in so many slots of a file
 pub record AreKeys (state : State) (column : KeyColumn) (slots : ℕ) : Type 0 where
@@ -12,12 +16,31 @@ pub record AreKeys (state : State) (column : KeyColumn) (slots : ℕ) : Type 0 w
   pub few : slots ≤ 32768
   pub fields : (slot : ℕ) → slot < slots → HasField state column slot
 
--- a file is the tree of some keys, where bytes are told, and all others are as before
-pub record BuildsTree (old new : State) (file : ℕ) (keys : List ℤ) : Type 0 where
-  pub bytes : List ℕ
-  pub becomes : Becomes old new file (length bytes) bytes
-  pub tree : IsTrue old.tells → IsTreeOf bytes keys
+-- a column has the numbers of an attribute in the rows of a file
+pub record IsNumbersOf (files : Table) (attributes : List Attribute) (place : ℕ) (column : KeyColumn) (slots : ℕ) : Type 0 where
+  pub attribute : Attribute
+  pub placed : slice_get attributes place ≡ Some attribute
+  pub row_is : column.row ≡ row_length attributes
+  pub at_is : column.at ≡ fields_length (take place attributes)
+  pub width_is : column.width ≡ width attribute.domain
+  pub slots_are : slots ≡ slots_in_bytes attributes (bytes_at files column.file)
 
--- the file of a name, where it doubles, is the tree of some keys
-abbrev pub HasTreeNow : (old new : Table) → List ℕ → List ℤ → Type 0
-HasTreeNow old new name keys = (k : ℕ) → IsNamed old k name → (file_at old k).kind ≡ Doubling → IsTreeOf (bytes_at new k) keys
+-- and those of an index
+pub record IsKeysOf (files : Table) (relations : List (Option Schema)) (entry : IndexEntry) (column : KeyColumn) (slots : ℕ) : Type 0 where
+  pub schema : Schema
+  pub stands : get_or relations entry.relation None ≡ Some schema
+  pub named : IsNamed files column.file (rows_file entry.relation)
+  pub only : (k : ℕ) → IsNamed files k (rows_file entry.relation) → k ≡ column.file
+  pub numbers : IsNumbersOf files schema.attributes entry.attribute column slots
+
+-- a file has more rows than any relation of such attributes
+abbrev pub HasTooMany : Table → ℕ → List Attribute → Type 0
+HasTooMany files file attributes = row_length attributes ≤ 128 → 32768 < slots_in_bytes attributes (bytes_at files file)
+
+-- an index may stand on the attribute, and its relation has its file
+pub record MayHaveKeys (files : Table) (relations : List (Option Schema)) (entry : IndexEntry) (schema : Schema) (file : ℕ) : Type 0 where
+  pub stands : get_or relations entry.relation None ≡ Some schema
+  pub attribute : Attribute
+  pub placed : slice_get schema.attributes entry.attribute ≡ Some attribute
+  pub allowed : allows entry.kind attribute.domain ≡ true
+  pub named : IsNamed files file (rows_file entry.relation)

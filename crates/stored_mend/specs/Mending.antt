@@ -1,13 +1,16 @@
 -- What a step of mending keeps.
-use Rattle.std.specs.Prelude.{◌≡◌, ℕ, ◌≤◌, IsTrue, Option}
+use Rattle.std.specs.Prelude.{◌≡◌, ⊤, ℕ, ◌≤◌, IsTrue, Option}
 use Rattle.afl_base.specs.Files.{IsNamed, State, Table, size_at}
 use Rattle.catalog.specs.Rules.{catalog_bytes_in}
 use Rattle.db_model.specs.declared.schemas.Schema.{Schema}
 use Rattle.db_model.specs.Catalog.{relation_at}
+use Rattle.db_model.specs.Database.{Database}
 use Rattle.space_model.specs.FileNames.{catalog_file}
 use Rattle.stored.specs.Base.{base_of}
 use Rattle.stored.specs.Mended.{mended_base, mended_version, whole_catalog}
 use Rattle.stored.specs.Sound.{IsSoundTable}
+use Rattle.stored_mend.specs.Filled.{IsFilled}
+use Rattle.stored_mend.specs.Trees.{LosesTreesFor}
 
 -- what the files mend to stays, where bytes are told
 pub record MendsAsBefore (old new : State) : Type 0 where
@@ -15,9 +18,26 @@ pub record MendsAsBefore (old new : State) : Type 0 where
   pub draft : new.draft ≡ old.draft
   pub tells : new.tells ≡ old.tells
 
--- files that are sound behind it stand for what they mended to before it
+-- what putting right changes in a database: relations have one row more, which is removed; and then indexes that had a
+-- tree are gone, each for a reason
+pub record IsPutRightFor (reason : ℕ → Type 0) (old now : Database) : Type 0 where
+  pub filled : Database
+  pub fills : IsFilled old filled
+  pub loses : LosesTreesFor reason filled now
+
+-- whatever the reason is
+abbrev pub IsPutRight : (old now : Database) → Type 0
+IsPutRight old now = IsPutRightFor (λ slot. ⊤) old now
+
+-- what the files mend to is put right, where bytes are told
+pub record PutsRight (reason : ℕ → Type 0) (old new : State) : Type 0 where
+  pub base : IsTrue old.tells → IsPutRightFor reason (mended_base old.files) (mended_base new.files)
+  pub draft : new.draft ≡ old.draft
+  pub tells : new.tells ≡ old.tells
+
+-- files that are sound behind it stand for what they mended to before it, put right
 pub record StandsForMended (old new : Table) : Type 0 where
-  pub base : IsSoundTable new → base_of new ≡ mended_base old
+  pub base : IsSoundTable new → IsPutRight (mended_base old) (base_of new)
 
 -- the catalog stays too
 pub record KeepsBase (old new : State) : Type 0 where

@@ -24,11 +24,6 @@ pub record MayEndAt (file : File) (size : ℕ) : Type 0 where
 abbrev pub ChangesOne : (old new : State) → List ℕ → Type 0
 ChangesOne old new name = SparesOthers old new (λ k. IsNamed old.files k name → ⊥)
 
--- the file of a name has its whole rows and no more, where it may
-abbrev pub HasWholeRows : (old new : Table) → List ℕ → List Attribute → Type 0
-HasWholeRows old new name attributes = (k : ℕ) → IsNamed old k name
-    → MayEndAt (file_at old k) (whole_length attributes (bytes_at old k)) → bytes_at new k ≡ whole_rows attributes (bytes_at old k)
-
 -- the file of a name has the same rows as before
 abbrev pub AreSameRows : (old new : Table) → List ℕ → List Attribute → Type 0
 AreSameRows old new name attributes = rows_of attributes (bytes_named name new) ≡ rows_of attributes (bytes_named name old)

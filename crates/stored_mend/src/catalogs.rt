@@ -10,7 +10,6 @@ ghost use Rattle.db_model.specs.Catalog.{relation_slot_bytes};
 ghost use Rattle.stored.specs.Mended.{has_time, mended_base};
 ghost use Rattle.stored_mend.specs.Mending.{HasInSlot, IsWholeCatalog, MendsAsBefore, WantsMark};
 
-use crate::decoding::name_in;
 use crate::listing::{SIZE_OF_VERSION_1, VERSION_MARK, relation_in, whole_catalog};
 use crate::report::{Mended, Report};
 use afl_base::{Failed, FileError, FileId, Files, IndexId, Kind, RelationId, regions};

@@ -1,31 +1,27 @@
-//! Rows and trees, put right in drafts.
+//! Rows of which a part is there, filled or taken back.
 
 #![tactic(auto)]
 
 ghost use Rattle.std.specs.Bool.{Decides};
-ghost use Rattle.std.specs.Prelude.{◌≡◌, ◌≢◌, ◌≤◌, ◌<◌, ◌+◌, ◌-◌, ℕ, IfOk, IsSome, IsTrue, None, OnOk, length, replicate, slice_index, slice_range, take};
+ghost use Rattle.std.specs.Prelude.{◌≡◌, ◌≢◌, ◌≤◌, ◌<◌, ◌+◌, ◌-◌, ◌⊎◌, ℕ, IfOk, IsSome, IsTrue, None, OnOk, length, replicate, slice_index, slice_range, take};
 ghost use Rattle.afl_base.specs.Files.{Becomes, Drafts, IsLive, IsNamed, WritesDraft, bytes_at, draft_in, file_at, size_at};
 ghost use Rattle.afl_base.specs.Keeping.{Changes, ChangesOrLacks, OnlyReads};
 ghost use Rattle.afl_base.specs.declared.kind.Kind.TheVariants.{Doubling};
-ghost use Rattle.afl_base.specs.KeyColumn.{key_of};
-ghost use Rattle.afl_base.specs.Keys.{first_keys};
 ghost use Rattle.stored.specs.Mended.{mended_catalog};
-ghost use Rattle.stored_mend.specs.Keys.{AreKeys, BuildsTree, HasTreeNow};
-ghost use Rattle.stored_mend.specs.Mending.{KeepsBase};
-ghost use Rattle.stored_mend.specs.Rows.{AreSameRows, ChangesOne, HasWholeRows, MayEndAt};
+ghost use Rattle.stored_mend.specs.Filled.{EndsInRow, FillsIn, HasRemovedMore};
+ghost use Rattle.stored_mend.specs.Rows.{AreSameRows, ChangesOne, MayEndAt};
 
-use crate::keyed::{Keyed, keys_of};
+use crate::filling::fill_row;
 use crate::report::{Mended, Report};
-use afl_base::{Failed, FileError, FileId, Files, IndexId, Kind, Name, RelationId};
-use catalog::{Catalog, IndexEntry, rows_file, tree_file};
-use db_model::{IndexKind, Schema, row_length};
-use index_maxheap::{BUCKET_SIZE, HEAD_SIZE, buckets_for, build, verify};
-use index_tree::a_tree_ends_in_a_mark;
+use afl_base::{Failed, FileError, FileId, Files, Kind, Name, RelationId};
+use catalog::{Catalog, rows_file};
+use db_model::{Schema, row_length};
 
 // The bytes that are copied at once.
 const PIECE_SIZE: u32 = 256;
 
-/// Takes back a row of the relation in a slot that is there in part.
+/// Fills a row of the relation in a slot that is there in part to a removed row. One that is the front of no row is
+/// taken back.
 pub fn mend_rows<V: Files>(
     files: &mut V,
     slot: u16,
@@ -36,7 +32,7 @@ pub fn mend_rows<V: Files>(
     requires listed { IsTrue (V.state files.old).tells
         → catalog.now.relations ≡ (mended_catalog (V.state files.old).files).relations }
     requires idle { (V.state files.old).draft ≡ None }
-    ensures kept { OnOk result (KeepsBase (V.state files.old) (V.state files.new)) }
+    ensures kept { OnOk result (FillsIn (λ k. k ≡ slot) (V.state files.old) (V.state files.new)) }
     ensures frame { ChangesOrLacks V.state V.lent V.reads V.faults V.lacks files.old files.new result }
 {
     match RelationId::new(slot) {
@@ -58,12 +54,12 @@ fn mend_relation_rows<V: Files>(
     requires listed { IsTrue (V.state files.old).tells
         → catalog.now.relations ≡ (mended_catalog (V.state files.old).files).relations }
     requires idle { (V.state files.old).draft ≡ None }
-    ensures kept { OnOk result (KeepsBase (V.state files.old) (V.state files.new)) }
+    ensures kept { OnOk result (FillsIn (λ k. k ≡ id) (V.state files.old) (V.state files.new)) }
     ensures frame { ChangesOrLacks V.state V.lent V.reads V.faults V.lacks files.old files.new result }
 {
     match &catalog.relations[id.number() as usize] {
         Some(schema) => {
-            mend_rows_of(files, schema, rows_file(id), report)?;
+            mend_rows_of(files, schema, catalog.version, rows_file(id), report)?;
             Ok(())
         }
         None => Ok(()),
@@ -73,14 +69,16 @@ fn mend_relation_rows<V: Files>(
 fn mend_rows_of<V: Files>(
     files: &mut V,
     schema: &Schema,
+    version: u8,
     name: Name,
     report: &mut Report,
 ) -> Result<(), FileError>
     requires idle { (V.state files.old).draft ≡ None }
+    ensures end { IsTrue (V.state files.old).tells → OnOk result
+        (EndsInRow (V.state files.old).files (V.state files.new).files name schema.now.attributes) }
     ensures rows { IsTrue (V.state files.old).tells → OnOk result
-        (HasWholeRows (V.state files.old).files (V.state files.new).files name schema.now.attributes) }
-    ensures same { IsTrue (V.state files.old).tells → OnOk result
-        (AreSameRows (V.state files.old).files (V.state files.new).files name schema.now.attributes) }
+        (AreSameRows (V.state files.old).files (V.state files.new).files name schema.now.attributes
+        ⊎ HasRemovedMore (V.state files.old).files (V.state files.new).files name schema.now.attributes) }
     ensures others { OnOk result (ChangesOne (V.state files.old) (V.state files.new) name) }
     ensures frame { ChangesOrLacks V.state V.lent V.reads V.faults V.lacks files.old files.new result }
 {
@@ -89,7 +87,14 @@ fn mend_rows_of<V: Files>(
     };
     let size = files.size(file);
     let whole = size - size % row_length(&schema.attributes) as u32;
-    if whole == size || !may_end_at(files, file, whole)? {
+    if whole == size {
+        return Ok(());
+    }
+    if fill_row(files, file, &schema.attributes, version)? {
+        report.add(Mended::Row(schema.name));
+        return Ok(());
+    }
+    if !may_end_at(files, file, whole)? {
         return Ok(());
     }
     cut_file(files, file, name, whole)?;
@@ -178,117 +183,5 @@ fn copy_piece<V: Files>(files: &mut V, file: FileId, at: u32, count: usize) -> R
     let piece = &mut bytes[..count];
     files.read(file, at, piece)?;
     files.draft_write(at, piece)?;
-    Ok(())
-}
-
-/// Builds the tree of the index in a slot anew, where it is not that of its keys.
-pub fn mend_tree<V: Files>(
-    files: &mut V,
-    slot: u16,
-    catalog: &Catalog,
-    report: &mut Report,
-) -> Result<(), FileError>
-    requires relations { length catalog.now.relations ≡ 8 }
-    requires indexes { length catalog.now.indexes ≡ 8 }
-    requires idle { (V.state files.old).draft ≡ None }
-    ensures kept { OnOk result (KeepsBase (V.state files.old) (V.state files.new)) }
-    ensures frame { ChangesOrLacks V.state V.lent V.reads V.faults V.lacks files.old files.new result }
-{
-    match IndexId::new(slot) {
-        Some(id) => {
-            mend_index_tree(files, id, catalog, report)?;
-            Ok(())
-        }
-        None => Ok(()),
-    }
-}
-
-fn mend_index_tree<V: Files>(
-    files: &mut V,
-    id: IndexId,
-    catalog: &Catalog,
-    report: &mut Report,
-) -> Result<(), FileError>
-    requires relations { length catalog.now.relations ≡ 8 }
-    requires indexes { length catalog.now.indexes ≡ 8 }
-    requires idle { (V.state files.old).draft ≡ None }
-    ensures kept { OnOk result (KeepsBase (V.state files.old) (V.state files.new)) }
-    ensures frame { ChangesOrLacks V.state V.lent V.reads V.faults V.lacks files.old files.new result }
-{
-    let Some(entry) = catalog.indexes[id.number() as usize] else {
-        return Ok(());
-    };
-    if entry.kind != IndexKind::MaxHeap {
-        return Ok(());
-    }
-    let Some(keys) = keys_of(files, catalog, &entry) else {
-        return Ok(());
-    };
-    if mend_tree_of(files, tree_file(id), &keys)? {
-        report_tree(catalog, &entry, report);
-    }
-    Ok(())
-}
-
-// Reports that the tree of an index is built anew.
-fn report_tree(catalog: &Catalog, entry: &IndexEntry, report: &mut Report)
-    requires relations { length catalog.now.relations ≡ 8 }
-{
-    if let Some(schema) = &catalog.relations[entry.relation.number() as usize] {
-        if let Some(found) = schema.attributes.as_slice().get(entry.attribute as usize) {
-            report.add(Mended::Tree {
-                relation: schema.name,
-                attribute: found.name,
-            });
-        }
-    }
-}
-
-// Builds the tree of some keys anew, where the file of this name is not. It answers whether it did.
-fn mend_tree_of<V: Files>(files: &mut V, name: Name, keys: &Keyed) -> Result<bool, FileError>
-    requires keys { AreKeys (V.state files.old) keys.now.column keys.now.slots }
-    requires idle { (V.state files.old).draft ≡ None }
-    ensures tree { IsTrue (V.state files.old).tells → keys.now.column.width ≢ 8 → OnOk result
-        (HasTreeNow (V.state files.old).files (V.state files.new).files name
-        (first_keys (key_of (V.state files.old) keys.now.column) keys.now.slots)) }
-    ensures others { OnOk result (ChangesOne (V.state files.old) (V.state files.new) name) }
-    ensures frame { ChangesOrLacks V.state V.lent V.reads V.faults V.lacks files.old files.new result }
-{
-    let Some(tree) = files.find(name) else {
-        return Ok(false);
-    };
-    if keys.column.width == 8 || files.kind(tree) != Kind::Doubling {
-        return Ok(false);
-    }
-    if verify(files, tree, keys.column, keys.slots)? {
-        return Ok(false);
-    }
-    build_tree(files, tree, name, keys)?;
-    Ok(true)
-}
-
-// Builds the tree of some keys in a draft, which replaces a file.
-fn build_tree<V: Files>(
-    files: &mut V,
-    tree: FileId,
-    name: Name,
-    keys: &Keyed,
-) -> Result<(), FileError>
-    requires keys { AreKeys (V.state files.old) keys.now.column keys.now.slots }
-    requires narrow { keys.now.column.width ≢ 8 }
-    requires idle { (V.state files.old).draft ≡ None }
-    requires named { IsNamed (V.state files.old).files tree name }
-    requires only { (k : ℕ) → IsNamed (V.state files.old).files k name → k ≡ tree }
-    requires kind { (file_at (V.state files.old).files tree).kind ≡ Doubling }
-    ensures built { OnOk result (BuildsTree (V.state files.old) (V.state files.new) tree
-        (first_keys (key_of (V.state files.old) keys.now.column) keys.now.slots)) }
-    ensures frame { ChangesOrLacks V.state V.lent V.reads V.faults V.lacks files.old files.new result }
-{
-    let buckets = buckets_for(files, keys.column, keys.slots)?;
-    let size = HEAD_SIZE as u32 + BUCKET_SIZE as u32 * u32::from(buckets);
-    files.draft(name, size)?;
-    build(files, keys.column, keys.slots, buckets)?;
-    a_tree_ends_in_a_mark();
-    files.draft_commit()?;
     Ok(())
 }

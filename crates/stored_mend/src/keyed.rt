@@ -2,11 +2,16 @@
 
 #![tactic(auto)]
 
-ghost use Rattle.std.specs.Prelude.{◌≡◌, IfSome, length};
-ghost use Rattle.afl_base.specs.Files.{IsLive};
+ghost use Rattle.std.specs.Prelude.{◌≡◌, ℕ, Some, IfNone, IfSome, false, length, slice_get, true};
+ghost use Rattle.afl_base.specs.Files.{IsLive, IsNamed};
 ghost use Rattle.afl_base.specs.KeyColumn.{IsWidth};
+ghost use Rattle.db_model.specs.declared.schemas.Attribute.{Attribute as AnyAttribute};
+ghost use Rattle.db_model.specs.declared.schemas.IndexKind.{IndexKind as AnyKind};
+ghost use Rattle.db_model.specs.declared.schemas.Schema.{Schema as AnySchema};
 ghost use Rattle.db_model.specs.Row.{width};
-ghost use Rattle.stored_mend.specs.Keys.{AreKeys};
+ghost use Rattle.db_model.specs.Step.{allows};
+ghost use Rattle.space_model.specs.FileNames.{rows_file};
+ghost use Rattle.stored_mend.specs.Keys.{AreKeys, HasTooMany, IsKeysOf, IsNumbersOf, MayHaveKeys};
 
 use afl_base::{FileId, Files, KeyColumn};
 use catalog::{Catalog, IndexEntry, rows_file};
@@ -23,6 +28,13 @@ pub struct Keyed {
 pub fn keys_of<V: Files>(files: &V, catalog: &Catalog, entry: &IndexEntry) -> Option<Keyed>
     requires relations { length catalog.now.relations ≡ 8 }
     ensures keys { IfSome result (λ keys. AreKeys (V.state files.now) keys.column keys.slots) }
+    ensures rows { IfSome result (λ keys.
+        IsNamed (V.state files.now).files keys.column.file (rows_file entry.now.relation)) }
+    ensures read { let table = (V.state files.now).files in IfSome result
+        (λ keys. IsKeysOf table catalog.now.relations entry.now keys.column keys.slots) }
+    ensures none { let table = (V.state files.now).files in IfNone result ((schema : AnySchema) (file : ℕ)
+        → MayHaveKeys table catalog.now.relations entry.now schema file
+        → HasTooMany table file schema.attributes) }
 {
     match &catalog.relations[entry.relation.number() as usize] {
         Some(schema) => {
@@ -37,6 +49,12 @@ pub fn keys_of<V: Files>(files: &V, catalog: &Catalog, entry: &IndexEntry) -> Op
 fn keys_at<V: Files>(files: &V, file: FileId, schema: &Schema, attribute: u8) -> Option<Keyed>
     requires live { IsLive (V.state files.now).files file }
     ensures keys { IfSome result (λ keys. AreKeys (V.state files.now) keys.column keys.slots) }
+    ensures file { IfSome result (λ keys. keys.column.file ≡ file) }
+    ensures numbers { IfSome result (λ keys. IsNumbersOf (V.state files.now).files schema.now.attributes
+        attribute keys.column keys.slots) }
+    ensures none { IfNone result ((kind : AnyKind) (a : AnyAttribute)
+        → slice_get schema.now.attributes attribute ≡ Some a → allows kind a.domain ≡ true
+        → HasTooMany (V.state files.now).files file schema.now.attributes) }
 {
     let place = attribute as usize;
     let attributes = schema.attributes.as_slice();
@@ -65,6 +83,7 @@ fn keys_at<V: Files>(files: &V, file: FileId, schema: &Schema, attribute: u8) ->
 fn number_width(domain: Domain) -> Option<u8>
     ensures same { IfSome result (λ n. n ≡ width domain) }
     ensures width { IfSome result (λ n. IsWidth n) }
+    ensures none { IfNone result ((kind : AnyKind) → allows kind domain ≡ false) }
 {
     match domain {
         Domain::Int => Some(2),

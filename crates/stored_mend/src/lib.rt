@@ -7,15 +7,20 @@
 mod catalogs;
 mod contents;
 mod decoding;
+mod fields;
+mod filling;
 mod keyed;
 mod lines;
 mod listing;
 mod mending;
 mod pieces;
 mod report;
+mod rows;
 mod strays;
+mod trees;
 
-pub use decoding::{attribute_in, domain_in, index_in, mended_relation, name_in};
+pub use decoding::mended_relation;
+pub use filling::may_fill;
 pub use keyed::{Keyed, keys_of};
 pub use lines::write_report;
 pub use listing::{SIZE_OF_VERSION_1, VERSION_MARK, whole_catalog};

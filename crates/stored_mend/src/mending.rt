@@ -2,15 +2,18 @@
 
 #![tactic(auto)]
 
-ghost use Rattle.std.specs.Prelude.{◌≡◌, IfOk, IfSome, IsTrue, None, OnOk, length};
+ghost use Rattle.std.specs.Prelude.{◌≡◌, IfOk, IfSome, IsTrue, None, OnOk, length, ⊤};
 ghost use Rattle.afl_base.specs.Keeping.{ChangesOrLacks, OnlyReads};
 ghost use Rattle.stored.specs.Mended.{mended_catalog};
-ghost use Rattle.stored_mend.specs.Mending.{KeepsBase, MendsAsBefore, StandsForMended};
+ghost use Rattle.stored_mend.specs.Filled.{FillsIn};
+ghost use Rattle.stored_mend.specs.Mending.{MendsAsBefore, PutsRight, StandsForMended};
+ghost use Rattle.stored_mend.specs.Trees.{LacksRoom};
 
 use crate::catalogs::{complete_mark, mend_index, mend_relation, take_back_catalog};
-use crate::contents::{mend_rows, mend_tree};
+use crate::contents::mend_rows;
 use crate::report::Report;
 use crate::strays::{remove_rows, remove_tree};
+use crate::trees::mend_all_trees;
 use afl_base::{Failed, FileError, Files};
 use catalog::{Catalog, load};
 
@@ -20,7 +23,8 @@ use catalog::{Catalog, load};
 pub fn mend_database<V: Files>(files: &mut V, report: &mut Report) -> Result<(), FileError>
     requires idle { (V.state files.old).draft ≡ None }
     ensures idle { OnOk result ((V.state files.new).draft ≡ None) }
-    ensures kept { OnOk result (MendsAsBefore (V.state files.old) (V.state files.new)) }
+    ensures kept { OnOk result
+        (PutsRight (LacksRoom V.state V.lacks) (V.state files.old) (V.state files.new)) }
     ensures sound { IsTrue (V.state files.old).tells → OnOk result
         (StandsForMended (V.state files.old).files (V.state files.new).files) }
     ensures frame { ChangesOrLacks V.state V.lent V.reads V.faults V.lacks files.old files.new result }
@@ -32,12 +36,15 @@ pub fn mend_database<V: Files>(files: &mut V, report: &mut Report) -> Result<(),
 }
 
 // Puts right what the catalog asks for.
+#[tactic(auto, using(crate::proofs::PutRight::right_same))]
 fn mend_listed<V: Files>(files: &mut V, report: &mut Report) -> Result<(), FileError>
     requires idle { (V.state files.old).draft ≡ None }
-    ensures kept { OnOk result (KeepsBase (V.state files.old) (V.state files.new)) }
+    ensures kept { OnOk result
+        (PutsRight (LacksRoom V.state V.lacks) (V.state files.old) (V.state files.new)) }
     ensures frame { ChangesOrLacks V.state V.lent V.reads V.faults V.lacks files.old files.new result }
 {
-    match sound_catalog(files)? {
+    let found = sound_catalog(files)?;
+    match found {
         Some(catalog) => {
             mend_contents(files, &catalog, report)?;
             Ok(())
@@ -105,7 +112,8 @@ fn mend_contents<V: Files>(
     requires listed { IsTrue (V.state files.old).tells
         → catalog.now.relations ≡ (mended_catalog (V.state files.old).files).relations }
     requires idle { (V.state files.old).draft ≡ None }
-    ensures kept { OnOk result (KeepsBase (V.state files.old) (V.state files.new)) }
+    ensures kept { OnOk result
+        (PutsRight (LacksRoom V.state V.lacks) (V.state files.old) (V.state files.new)) }
     ensures frame { ChangesOrLacks V.state V.lent V.reads V.faults V.lacks files.old files.new result }
 {
     mend_all_rows(files, catalog, report)?;
@@ -122,28 +130,11 @@ fn mend_all_rows<V: Files>(
     requires listed { IsTrue (V.state files.old).tells
         → catalog.now.relations ≡ (mended_catalog (V.state files.old).files).relations }
     requires idle { (V.state files.old).draft ≡ None }
-    ensures kept { OnOk result (KeepsBase (V.state files.old) (V.state files.new)) }
+    ensures kept { OnOk result (FillsIn (λ slot. ⊤) (V.state files.old) (V.state files.new)) }
     ensures frame { ChangesOrLacks V.state V.lent V.reads V.faults V.lacks files.old files.new result }
 {
     for slot in 0..8u16 {
         mend_rows(files, slot, catalog, report)?;
-    }
-    Ok(())
-}
-
-fn mend_all_trees<V: Files>(
-    files: &mut V,
-    catalog: &Catalog,
-    report: &mut Report,
-) -> Result<(), FileError>
-    requires relations { length catalog.now.relations ≡ 8 }
-    requires indexes { length catalog.now.indexes ≡ 8 }
-    requires idle { (V.state files.old).draft ≡ None }
-    ensures kept { OnOk result (KeepsBase (V.state files.old) (V.state files.new)) }
-    ensures frame { ChangesOrLacks V.state V.lent V.reads V.faults V.lacks files.old files.new result }
-{
-    for slot in 0..8u16 {
-        mend_tree(files, slot, catalog, report)?;
     }
     Ok(())
 }

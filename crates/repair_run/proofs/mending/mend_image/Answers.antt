@@ -1,6 +1,7 @@
 use Rattle.std.proofs.Common.{◌≡◌, ◌∙◌, ap, length, rules}
 use Rattle.std.specs.Prelude.{OnOk}
 use Rattle.repair_run.specs.Repairs.{database_in}
+use Rattle.stored_mend.specs.Mending.{IsPutRight}
 use Rattle.repair_run.proofs.mending.mend_image.Goals as goal
 
 pub mend_volume-requires : goal.mend_volume-requires
@@ -15,6 +16,6 @@ mend_volume-requires g c =
 pub returns-clause-base : goal.returns-clause-base
 returns-clause-base g c = λ told.
     let volume = c.over-volume.ensures in
-    let base : OnOk c.mend_volume.result (database_in (g.F.Flash.image c.mend_volume.new.volume.flash.flash.now) ≡ database_in (g.F.Flash.image c.args.flash.now)) =
+    let base : OnOk c.mend_volume.result (IsPutRight (database_in (g.F.Flash.image c.args.flash.now)) (database_in (g.F.Flash.image c.mend_volume.new.volume.flash.flash.now))) =
     rw (← c.list.ensures.same) (rw (← volume.same) (c.mend_volume.ensures.base (volume.tells ∙ told))) in
     search (rules, base)

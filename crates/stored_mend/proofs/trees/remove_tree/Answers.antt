@@ -1,0 +1,12 @@
+use Rattle.std.proofs.Common.{arith}
+use Rattle.afl_base.proofs.UsedLaws.{used_most}
+use Rattle.stored_mend.proofs.TreeFiles.{removed_spares}
+use Rattle.stored_mend.proofs.trees.remove_tree.Goals as goal
+
+pub returns-clause-spares : goal.returns-clause-spares
+returns-clause-spares g c = removed_spares (g.V.Files.state c.args.files.now) (g.V.Files.state c.remove.new.self) c.args.tree c.args.name c.requires.named c.in_ok-remove.ensures.removed
+
+pub returns-clause-place : goal.returns-clause-place
+returns-clause-place g c =
+    let most = used_most (g.V.Files.state c.args.files.now).files in
+    omega (arith, most, c.live.ensures.places, c.in_ok-remove.ensures.removed.used)

@@ -1,0 +1,232 @@
+//! The last row of a relation's file, filled to a removed row where it is there in part.
+
+#![tactic(auto)]
+
+ghost use Rattle.std.specs.Prelude.{◌≡◌, ◌≢◌, ◌+◌, ◌-◌, ◌/◌, ◌≤◌, ◌<◌, ◌++◌, IfOk, IfSome, IsFalse, IsTrue, None, OnOk, drop, length, replicate, slice_index, slice_range, take};
+ghost use Rattle.afl_base.specs.Files.{Appends, IsLive, bytes_at, file_at, size_at};
+ghost use Rattle.afl_base.specs.Keeping.{ChangesOrLacks, OnlyReads};
+ghost use Rattle.afl_base.specs.declared.kind.Kind.TheVariants.{Doubling};
+ghost use Rattle.db_model.specs.Row.{row_length, slots_in_bytes};
+ghost use Rattle.db_model.specs.Step.{slots_limit};
+ghost use Rattle.stored_mend.specs.Filled.{FillsPart, FillsRow, IsRemovedRow, part_of_row, row_before};
+ghost use Rattle.stored_mend.specs.Rows.{whole_length, whole_rows};
+ghost use Rattle.tuple_file.specs.Tuples.{AreRows};
+
+use crate::fields::fill_fields;
+use crate::rows::is_row;
+use afl_base::{Failed, FileError, FileId, Files, Kind};
+use db_model::{Attributes, row_length};
+
+// The most bytes of a row.
+const ROW_SIZE: usize = 128;
+
+/// Fills a row that is there in part at the end of a relation's file to a removed row, by one append. It answers
+/// whether it did: not where the part is the front of no row, or where a relation of the version has no slot more.
+pub fn fill_row<V: Files>(
+    files: &mut V,
+    file: FileId,
+    attributes: &Attributes,
+    version: u8,
+) -> Result<bool, FileError>
+    requires live { IsLive (V.state files.old).files file }
+    requires idle { (V.state files.old).draft ≡ None }
+    ensures filled { IfOk result (λ filled. IsTrue filled
+        → FillsRow (V.state files.old) (V.state files.new) file attributes.now) }
+    ensures rows { IsTrue (V.state files.old).tells → IfOk result (λ filled. IsTrue filled
+        → AreRows version attributes.now (whole_rows attributes.now (bytes_at (V.state files.old).files file))
+        → AreRows version attributes.now (bytes_at (V.state files.new).files file)) }
+    ensures stays { IfOk result (λ filled. IsFalse filled → V.state files.new ≡ V.state files.old) }
+    ensures frame { ChangesOrLacks V.state V.lent V.reads V.faults V.lacks files.old files.new result }
+{
+    match part_at_end(files, file, attributes, version) {
+        Some(have) => {
+            let filled = fill_part(files, file, attributes, have)?;
+            Ok(filled)
+        }
+        None => Ok(false),
+    }
+}
+
+/// Whether `fill_row` would fill a row at the end of the file, if it has room.
+pub fn may_fill<V: Files>(
+    files: &mut V,
+    file: FileId,
+    attributes: &Attributes,
+    version: u8,
+) -> Result<bool, Failed>
+    requires live { IsLive (V.state files.old).files file }
+    ensures frame { OnlyReads V.state V.lent V.reads V.faults files.old files.new result }
+{
+    match part_at_end(files, file, attributes, version) {
+        Some(have) => {
+            let mut bytes = [0; ROW_SIZE];
+            let row = &mut bytes[..row_length(attributes)];
+            removed_row(files, file, attributes, have, row)
+        }
+        None => Ok(false),
+    }
+}
+
+// How many bytes of a row stand at the end of a file, None where none do, or where it can have no row more.
+fn part_at_end<V: Files>(
+    files: &V,
+    file: FileId,
+    attributes: &Attributes,
+    version: u8,
+) -> Option<usize>
+    requires live { IsLive (V.state files.now).files file }
+    ensures doubles { IfSome result (λ have. (file_at (V.state files.now).files file).kind ≡ Doubling) }
+    ensures short { IfSome result (λ have. row_length attributes.now ≤ 128) }
+    ensures some { IfSome result (λ have. 1 ≤ have) }
+    ensures part { IfSome result (λ have. have < row_length attributes.now) }
+    ensures have { IfSome result (λ have.
+        whole_length attributes.now (bytes_at (V.state files.now).files file) + have
+        ≡ size_at (V.state files.now).files file) }
+    ensures few { IfSome result (λ have.
+        slots_in_bytes attributes.now (bytes_at (V.state files.now).files file) < slots_limit version) }
+{
+    let length = row_length(attributes);
+    if length > ROW_SIZE || !has_slot(files, file, length as u32, version) {
+        return None;
+    }
+    let have = (files.size(file) % length as u32) as usize;
+    if have == 0 {
+        return None;
+    }
+    Some(have)
+}
+
+// Fills a row of which so many bytes stand at the end of a file, where they are the front of one.
+fn fill_part<V: Files>(
+    files: &mut V,
+    file: FileId,
+    attributes: &Attributes,
+    have: usize,
+) -> Result<bool, FileError>
+    requires live { IsLive (V.state files.old).files file }
+    requires idle { (V.state files.old).draft ≡ None }
+    requires doubles { (file_at (V.state files.old).files file).kind ≡ Doubling }
+    requires short { row_length attributes.now ≤ 128 }
+    requires have { whole_length attributes.now (bytes_at (V.state files.old).files file) + have
+        ≡ size_at (V.state files.old).files file }
+    requires part { have < row_length attributes.now }
+    requires few { slots_in_bytes attributes.now (bytes_at (V.state files.old).files file) < 32768 }
+    ensures filled { IfOk result (λ filled. IsTrue filled
+        → FillsRow (V.state files.old) (V.state files.new) file attributes.now) }
+    ensures stays { IfOk result (λ filled. IsFalse filled → V.state files.new ≡ V.state files.old) }
+    ensures frame { ChangesOrLacks V.state V.lent V.reads V.faults V.lacks files.old files.new result }
+{
+    let mut bytes = [0; ROW_SIZE];
+    let row = &mut bytes[..row_length(attributes)];
+    if !removed_row(files, file, attributes, have, row)? {
+        return Ok(false);
+    }
+    append_rest(files, file, row, have)?;
+    Ok(true)
+}
+
+// Whether a relation may have one more row behind its whole ones, in a file that doubles.
+fn has_slot<V: Files>(files: &V, file: FileId, length: u32, version: u8) -> bool
+    requires live { IsLive (V.state files.now).files file }
+    requires some { 1 ≤ length }
+    ensures doubles { IsTrue result → (file_at (V.state files.now).files file).kind ≡ Doubling }
+    ensures few { IsTrue result → size_at (V.state files.now).files file / length < slots_limit version }
+{
+    let slots = files.size(file) / length;
+    files.kind(file) == Kind::Doubling && slots < slots_limit(version)
+}
+
+// Fills `row` with the removed row that a part at the end of a file is the front of, and answers whether it is one.
+fn removed_row<V: Files>(
+    files: &mut V,
+    file: FileId,
+    attributes: &Attributes,
+    have: usize,
+    row: &mut [u8],
+) -> Result<bool, Failed>
+    requires live { IsLive (V.state files.old).files file }
+    requires size { length row.old ≡ row_length attributes.now }
+    requires short { row_length attributes.now ≤ 128 }
+    requires have { whole_length attributes.now (bytes_at (V.state files.old).files file) + have
+        ≡ size_at (V.state files.old).files file }
+    requires part { have < row_length attributes.now }
+    ensures front { IsTrue (V.state files.old).tells → OnOk result
+        (take have row.new ≡ part_of_row attributes.now (bytes_at (V.state files.old).files file)) }
+    ensures fills { IsTrue (V.state files.old).tells → OnOk result (FillsPart attributes.now
+        (row_before attributes.now (bytes_at (V.state files.old).files file))
+        (part_of_row attributes.now (bytes_at (V.state files.old).files file)) row.new) }
+    ensures marked { OnOk result (slice_index row.new (length row.new - 1) ≡ 3) }
+    ensures removed { IfOk result (λ removed. IsTrue removed → IsRemovedRow attributes.now row.new) }
+    ensures size { length row.new ≡ length row.old }
+    ensures frame { OnlyReads V.state V.lent V.reads V.faults files.old files.new result }
+{
+    let length = row.len();
+    let whole = files.size(file) - have as u32;
+    blank(row);
+    read_front(files, file, whole, have, row)?;
+    let mut last = [0; ROW_SIZE];
+    let from = whole.saturating_sub(length as u32);
+    let before = &mut last[..(whole - from) as usize];
+    files.read(file, from, before)?;
+    fill_fields(attributes.as_slice(), before, row, have);
+    row[length - 1] = 3;
+    Ok(is_row(attributes, row))
+}
+
+// Makes all bytes zero.
+fn blank(bytes: &mut [u8])
+    ensures zeros { bytes.new ≡ replicate (length bytes.old) 0 }
+    ensures size { length bytes.new ≡ length bytes.old }
+{
+    bytes.fill(0);
+}
+
+// Reads so many bytes of a file from a place on into the front of others.
+fn read_front<V: Files>(
+    files: &mut V,
+    file: FileId,
+    at: u32,
+    count: usize,
+    into: &mut [u8],
+) -> Result<(), Failed>
+    requires live { IsLive (V.state files.old).files file }
+    requires inside { at + count ≤ size_at (V.state files.old).files file }
+    requires room { count ≤ length into.old }
+    ensures read { IsTrue (V.state files.old).tells → OnOk result (into.new
+        ≡ slice_range (bytes_at (V.state files.old).files file) at (at + count) ++ drop count into.old) }
+    ensures size { length into.new ≡ length into.old }
+    ensures frame { OnlyReads V.state V.lent V.reads V.faults files.old files.new result }
+{
+    let front = &mut into[..count];
+    files.read(file, at, front)
+}
+
+// Appends the bytes of a row behind those that are there.
+fn append_rest<V: Files>(
+    files: &mut V,
+    file: FileId,
+    row: &[u8],
+    have: usize,
+) -> Result<(), FileError>
+    requires live { IsLive (V.state files.old).files file }
+    requires idle { (V.state files.old).draft ≡ None }
+    requires doubles { (file_at (V.state files.old).files file).kind ≡ Doubling }
+    requires part { have < length row.now }
+    requires short { length row.now ≤ 128 }
+    requires most { size_at (V.state files.old).files file + length row.now ≤ 4194304 + have }
+    requires last { slice_index row.now (length row.now - 1) ≢ 0 }
+    ensures appended { OnOk result
+        (Appends (V.state files.old) (V.state files.new) file (drop have row.now)) }
+    ensures frame { ChangesOrLacks V.state V.lent V.reads V.faults V.lacks files.old files.new result }
+{
+    files.prepare(file, 0, (row.len() - have) as u32)?;
+    files.append(file, &row[have..])?;
+    Ok(())
+}
+
+// The most slots of a relation.
+fn slots_limit(version: u8) -> u32
+    ensures most { result ≡ slots_limit version }
+{
+    if version == 1 { 16_384 } else { 32_768 }
+}
