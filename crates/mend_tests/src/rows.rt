@@ -47,8 +47,9 @@ pub fn is_filled<V: Files>(
 
 // Whether the file of rows, of so many bytes, ends with these.
 fn has_end<V: Files>(files: &mut V, size: u32, end: &[u8]) -> Result<bool, Failed> {
-    for (back, byte) in end.iter().rev().enumerate() {
-        let at = size.saturating_sub(1).saturating_sub(back as u32);
+    let mut at = size;
+    for byte in end.iter().rev() {
+        at = at.saturating_sub(1);
         if byte_at(files, b"T0", at)? != Some(*byte) {
             return Ok(false);
         }

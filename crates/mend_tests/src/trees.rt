@@ -1,7 +1,7 @@
 //! The relation r of three INTs a, b and c, with rows in which two of the keys never change, and trees of
 //! some of its keys.
 
-ghost use Rattle.std.specs.Prelude.{◌≡◌, ◌≤◌, ◌*◌, IfSome, IsTrue, None, OnOk};
+ghost use Rattle.std.specs.Prelude.{◌≡◌, ◌<◌, ◌≤◌, ◌*◌, IfSome, IsTrue, None, OnOk};
 ghost use Rattle.afl_base.specs.Files.{IsLive, IsUnnamed, size_at, used};
 
 use crate::database::{no_relation, put_catalog, put_growing};
@@ -95,10 +95,9 @@ fn build_tree<V: Files>(
     requires used { used (V.state files.old).files < 32 }
     ensures idle { OnOk result ((V.state files.new).draft ≡ None) }
 {
-    let keys = column(rows, place);
-    let most = buckets_for(files, keys, slots)?;
+    let most = buckets_for(files, column(rows, place), slots)?;
     files.draft(name, 683 + 195 * u32::from(most))?;
-    build(files, keys, slots, most)?;
+    build(files, column(rows, place), slots, most)?;
     a_tree_ends_in_a_mark();
     files.draft_commit()?;
     Ok(())
@@ -143,7 +142,8 @@ pub fn rows_for<V: Files>(files: &mut V, buckets: u16) -> Result<u16, FileError>
         if !has_rows(files, rows, slots) {
             return Err(FileError::Failed);
         }
-        if buckets_for(files, column(rows, 0), slots)? == buckets {
+        let many = buckets_for(files, column(rows, 0), slots)?;
+        if many == buckets {
             return Ok(slots);
         }
     }
