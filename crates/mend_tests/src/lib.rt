@@ -14,7 +14,3 @@ mod row_tests;
 mod rows;
 #[cfg(test)]
 mod strange_tests;
-#[cfg(test)]
-mod tree_tests;
-#[cfg(test)]
-mod trees;

@@ -1,6 +1,6 @@
 //! Databases with a row of which a part is there: the relation r in slot 0.
 
-ghost use Rattle.std.specs.Prelude.{◌≡◌, None, OnOk};
+ghost use Rattle.std.specs.Prelude.{◌≡◌, None};
 
 use crate::database::{no_relation, put_catalog, put_growing};
 use crate::mended::{byte_at, is_mended, size_named};
@@ -37,7 +37,6 @@ pub fn is_filled<V: Files>(
     end: &[u8],
 ) -> Result<bool, FileError>
     requires idle { (V.state files.old).draft ≡ None }
-    ensures idle { OnOk result ((V.state files.new).draft ≡ None) }
 {
     put_catalog(files, catalog, 1480)?;
     put_growing(files, b"T0", rows)?;
