@@ -155,11 +155,11 @@ def live(ring, most, collects=False):
 
 
 def test_a_year_of_relations_in_turn_finds_space():
-    live(Turns(), 24)
+    live(Turns(), 26)
 
 
 def test_a_year_of_removed_and_packed_rows_finds_space():
-    live(Packed(), 24)
+    live(Packed(), 26)
 
 
 def test_a_year_of_collections_at_night_erases_nothing_by_day():
