@@ -4,7 +4,7 @@ use Rattle.afl_base.specs.Files.{File, Table, file_at}
 use Rattle.afl_base.specs.Fit.{fit}
 use Rattle.afl_base.specs.declared.kind.Kind.TheVariants.{Doubling, Fixed}
 
--- so many pages are few for a file: at most twice those that its bytes need where it grows, and at most 16 where it does not
+-- this many pages are few for a file: at most twice those that its bytes need where it grows, and at most 16 where it does not
 pub record AreFewFor (f : File) (pages : ℕ) : Type 0 where
   pub growing : f.kind ≡ Doubling → pages ≤ max 16 (2 * fit (length f.bytes))
   pub fixed : (n : ℕ) → f.kind ≡ Fixed n → pages ≤ 16

@@ -1,4 +1,4 @@
--- What a call on files leaves that was cut off in the middle of a write: what all is kept in mends to the files
+-- What a call on files leaves that was cut off in the middle of a write: the storage mends to the files
 -- before it, or to those that it might have left.
 use Rattle.std.specs.Prelude.{◌≡◌, ◌⊎◌, ℕ, ◌+◌, ◌%◌, ◌≤◌, Bool, IsTrue, List, length, take}
 use Rattle.afl_base.specs.Files.{Appends, Overwrites, State, Table}

@@ -23,7 +23,7 @@ abbrev pub Table : Type 0
 Table = List (Option File)
 
 -- all files, the draft that is begun, whether the bytes that are told are those that are held, and
--- the bytes that all is kept in
+-- the bytes of the storage
 pub record State : Type 0 where
   pub tells : Bool
   pub files : Table

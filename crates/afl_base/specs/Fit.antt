@@ -1,11 +1,11 @@
--- The pages of an extent that holds so many bytes.
+-- The pages of an extent that holds this many bytes.
 use Rattle.std.specs.Prelude.{◌≡◌, ℕ, zero, suc, ◌+◌, ◌*◌, ◌^◌, ◌≤◌, nat_le, if◌then◌else◌}
 
--- the bytes fit into so many pages behind the 32 bytes of the header
+-- the bytes fit into this many pages after the 32 bytes of the header
 abbrev pub HoldsSize : ℕ → ℕ → Type 0
 HoldsSize pages size = size + 32 ≤ 256 * pages
 
--- the first of pages, 2 * pages, 4 * pages, .. that holds the size, after at most so many doublings
+-- the first of pages, 2 * pages, 4 * pages, .. that holds the size, after at most this many doublings
 abbrev pub first_fit : ℕ → ℕ → ℕ → ℕ
 first_fit zero pages size = pages
 first_fit (suc turns) pages size = if nat_le (size + 32) (256 * pages) then pages else first_fit turns (2 * pages) size

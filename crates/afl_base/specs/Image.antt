@@ -11,7 +11,7 @@ or_front (x ∷ xs) (b ∷ bs) = bit_or x b ∷ or_front xs bs
 unfoldable pub or_at : List ℕ → ℕ → List ℕ → List ℕ
 or_at image at bytes = take at image ++ or_front (drop at image) bytes
 
--- so many bytes from a place on are zero; all others stay
+-- this many bytes from a place on are zero; all others stay
 unfoldable pub zeros_at : List ℕ → ℕ → ℕ → List ℕ
 zeros_at image at n = take at image ++ replicate n 0 ++ drop (at + n) image
 

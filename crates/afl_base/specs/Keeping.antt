@@ -14,14 +14,14 @@ pub record OnlyReads {S A T E : Type 0} (seen : S → A) (borrows : S → List �
   pub faultless : OnOk result (faults new ≡ faults old)
   pub cause : HasCause (faults old) (faults new) result
 
--- a call that may change files: what all is kept in has as many bytes as before
+-- a call that may change files: the storage has as many bytes as before
 pub record Changes {S T E : Type 0} (state : S → State) (borrows : S → List ℕ) (reads faults : S → ℕ) (old new : S) (result : Result T E) : Type 0 where
   pub store : length (state new).store ≡ length (state old).store
   pub lent : borrows new ≡ borrows old
   pub later : reads old ≤ reads new
   pub cause : HasCause (faults old) (faults new) result
 
--- the same of a call that may find no space: then no extent of so many pages can be had
+-- the same of a call that may find no space: then no extent of this many pages is available
 pub record ChangesOrLacks {S T : Type 0} (state : S → State) (borrows : S → List ℕ) (reads faults : S → ℕ) (lacking : S → ℕ → Type 0) (old new : S) (result : Result T FileError) : Type 0 where
   pub store : length (state new).store ≡ length (state old).store
   pub lent : borrows new ≡ borrows old

@@ -3,7 +3,7 @@ use Rattle.std.specs.Prelude.{ℕ, ℤ, pos, ◌≡◌, ◌<◌, ◌≤◌, Bool
 use Rattle.std.specs.List.{range_with_len}
 use Rattle.std.specs.Ordering.{int_eq}
 
--- the keys of so many slots
+-- the keys of this many slots
 abbrev pub first_keys : (ℕ → ℤ) → ℕ → List ℤ
 first_keys key slots = map key (range_with_len 0 slots)
 

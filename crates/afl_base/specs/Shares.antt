@@ -9,13 +9,13 @@ use Rattle.afl_base.specs.declared.kind.Kind.TheVariants.{Doubling, Fixed}
 abbrev pub gap_for : ℕ → ℕ
 gap_for n = (n + 15) / 16 - 1
 
--- the sectors that a file of so many bytes touches at most: a doubling one has at most twice the
+-- the sectors that a file of this many bytes touches at most: a doubling one has at most twice the
 -- pages that it needs, a fixed one at most 15
 abbrev pub touched_of : Kind → ℕ → ℕ
 touched_of Doubling size = fit size / 8 + 1
 touched_of (Fixed n) size = 2
 
--- what a file takes at most, with its log, and with a gap behind each of the two
+-- what a file takes at most, with its log, and with a gap after each of the two
 abbrev pub file_share : (gap : ℕ) → Kind → ℕ → ℕ
 file_share gap kind size = touched_of kind size + 2 + 2 * gap
 

@@ -2,7 +2,7 @@
 use Rattle.std.specs.Prelude.{◌≡◌, ℕ, Bool, true, List, IsTrue, OnOk, Result}
 use Rattle.afl_base.specs.Files.{State}
 
--- each page that was free in what all is kept in is free now
+-- each page that was free in the storage is free now
 abbrev pub TakesNoPage : (List ℕ → ℕ → Bool) → (old new : List ℕ) → Type 0
 TakesNoPage is_free old new = (page : ℕ) → is_free old page ≡ true → is_free new page ≡ true
 
@@ -18,7 +18,7 @@ SparesWhere is_free so old new result = IsTrue old.tells → so → OnOk result 
 abbrev pub SparesPages : {S T E : Type 0} → (List ℕ → ℕ → Bool) → (S → State) → (old new : S) → Result T E → Type 0
 SparesPages is_free state old new result = IsTrue (state old).tells → OnOk result (TakesNoPage is_free (state old).store (state new).store)
 
--- what all is kept in is the same, and no extent is asked for that was not
+-- the storage is the same, and no extent is asked for that was not
 pub record StandsStill {S : Type 0} (state : S → State) (asks : S → ℕ → ℕ → ℕ → ℕ → Type 0) (old new : S) : Type 0 where
   pub store : (state new).store ≡ (state old).store
   pub asks_less : (id overwrites bytes need : ℕ) → asks new id overwrites bytes need → asks old id overwrites bytes need

@@ -12,7 +12,7 @@ use crate::name::Name;
 /// An object may tell the bytes of its files, as memory does, or not. What is said of bytes holds
 /// where they are told; names, kinds, sizes and rooms are always known. `read` leaves all as it was,
 /// on `Failed` too. Another call that answers `Failed` leaves nothing known but the counts, the length
-/// of what all is kept in, and what that borrows. Where its failures are cuts, what all is kept in then
+/// of the storage, and what that borrows. Where its failures are cuts, the storage then
 /// mends to the files as they were before the call, or to what the call might have made of them.
 pub trait Files {
     ghost use Rattle.std.specs.Prelude.{◌≡◌, ◌≢◌, ℕ, ◌+◌, ◌*◌, ◌-◌, ◌<◌, ◌≤◌, Bool, List, None, length, replicate, slice_index, slice_range, IsTrue, IsSome, IfSome, IfNone, IfOk, OnErr, OnOk};
@@ -25,7 +25,7 @@ pub trait Files {
     ghost use Rattle.afl_base.specs.Regions.{regions};
     ghost use Rattle.afl_base.specs.Sparing.{SparesPages, StandsStill, WantsNothing};
 
-    // All files, the draft, whether bytes are told, and the bytes that all is kept in.
+    // All files, the draft, whether bytes are told, and the bytes of the storage.
     ghost state: { Self → State };
     // How many calls failed, up to the last number of a u64.
     ghost faults: { Self → ℕ };
@@ -33,11 +33,11 @@ pub trait Files {
     ghost reads: { Self → ℕ };
     // What it borrows, it holds on to.
     ghost lent: { Self → List ℕ };
-    // No extent of so many pages can be had.
+    // There is no room for an extent of this many pages.
     ghost lacks: { Self → ℕ → Type 0 };
-    // `prepare` of this file for so many overwrites and bytes needs an extent of so many pages.
+    // `prepare` of this file for this many overwrites and bytes needs an extent of this many pages.
     ghost asks: { Self → ℕ → ℕ → ℕ → ℕ → Type 0 };
-    // Whether a page of what all is kept in is free.
+    // Whether a page of the storage is free.
     ghost is_free: { List ℕ → ℕ → Bool };
     // Whether its failures are cuts: a call that failed did a front part of its writes.
     ghost cuts: { Bool };
@@ -117,7 +117,7 @@ pub trait Files {
     /// at most 4,096, with which it has at most 4,194,304 and, of kind `Fixed(n)`, at most
     /// `256 * n - 32`. `Space` names the pages that are asked for and lacking: for a doubling file at
     /// most twice those that its bytes need, and for a fixed one at most 16. Where no extent is asked
-    /// for when the call is made it never comes, and what all is kept in stays. The file's bytes never
+    /// for when the call is made it never comes, and the storage stays. The file's bytes never
     /// change.
     fn prepare(&mut self, id: FileId, overwrites: u16, bytes: u32) -> Result<(), FileError>
         requires live { IsLive (state self.old).files id }

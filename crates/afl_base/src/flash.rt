@@ -23,7 +23,7 @@ pub trait Flash {
     ghost faults: { Self → ℕ };
     // How often `read` was called, up to the last number of a u64.
     ghost reads: { Self → ℕ };
-    // What it borrows, it holds on to: a flash in memory that is lent is the same memory behind a call.
+    // What it borrows, it holds on to: a flash in memory that is lent is the same memory after a call.
     ghost lent: { Self → List ℕ };
 
     /// The number of sectors, 4 to 4,095, which never changes.

@@ -12,7 +12,7 @@ pub enum Kind {
 /// Why a call of `Files` that asks for space did not do its work.
 #[derive(Clone, Copy, PartialEq, Eq, Debug)]
 pub enum FileError {
-    /// No extent of so many pages could be had. All files are as before.
+    /// There was no room for an extent of this many pages. All files are as before.
     Space { need: u16 },
     /// The store underneath failed: see `Failed`.
     Failed,

@@ -2,7 +2,7 @@ ghost use Rattle.std.specs.Prelude.{◌≡◌, ◌≤◌};
 ghost use Rattle.afl_base.specs.Fit.{fit, IsFit};
 ghost use Rattle.afl_base.specs.Regions.{regions};
 
-/// The least number of pages of the form `16 * 2^j` that holds `size` bytes behind a header of 32
+/// The least number of pages of the form `16 * 2^j` that holds `size` bytes after a header of 32
 /// bytes: 16 to 32,768.
 pub fn fit(size: u32) -> u16
     requires { size ≤ 8388576 }

@@ -3,7 +3,7 @@ use Rattle.std.specs.Prelude.{◌≡◌, ℕ, ◌+◌, ◌*◌, ◌-◌, ◌^◌
 use Rattle.afl_base.specs.Causes.{Rose}
 use Rattle.std.specs.List.{list_any}
 
--- a count of faults behind a call: one more where the call failed, up to the last number of a u64
+-- a count of faults after a call: one more where the call failed, up to the last number of a u64
 abbrev pub faults_counted : Bool → ℕ → ℕ
 faults_counted failed before = if failed then min (before + 1) (2 ^ 64 - 1) else before
 

@@ -1,4 +1,4 @@
--- Files in fixed arrays of so many bytes each.
+-- Files in fixed arrays of this many bytes each.
 use Rattle.std.specs.Prelude.{◌≡◌, ◌⊎◌, ℕ, ◌+◌, ◌*◌, ◌<◌, ◌≤◌, List, [], length, Option, None, Some, option_map, true}
 use Rattle.afl_base.specs.declared.kind.Kind.{Kind}
 use Rattle.afl_base.specs.declared.kind.Kind.TheVariants.{Doubling, Fixed}
@@ -7,7 +7,7 @@ use Rattle.afl_base.specs.Fit.{fit}
 use Rattle.padded.specs.Padded.{IsPadded}
 use Rattle.afl_base.specs.Places.{AreTaken}
 
--- a file lies in an array of cap bytes: size of them, zeros behind them, and room for its room
+-- a file lies in an array of cap bytes: size of them, zeros after them, and room for its room
 pub record IsPlain (cap size room : ℕ) (kind : Kind) (bytes : List ℕ) : Type 0 where
   pub padded : IsPadded cap size bytes
   pub fits : size + room ≤ cap
@@ -46,7 +46,7 @@ abbrev pub plain_pages : Kind → ℕ → ℕ
 plain_pages Doubling size = fit size
 plain_pages (Fixed n) size = n
 
--- the pages that a file would count as with so many bytes more
+-- the pages that a file would count as with this many bytes more
 abbrev pub asked_pages : Table → ℕ → ℕ → ℕ
 asked_pages files id more = plain_pages (file_at files id).kind (size_at files id + more)
 

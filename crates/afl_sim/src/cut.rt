@@ -21,7 +21,7 @@ fn done_at_cut(front: usize, n: usize) -> usize
 
 /// A flash in memory whose power goes. It tells its image.
 ///
-/// So many writes are done; of the next one a front part is done, and it fails; and so do all calls
+/// This many writes are done; of the next one a front part is done, and it fails; and so do all calls
 /// after it, which do nothing.
 #[derive(Drop)]
 pub struct CutFlash<'a> {

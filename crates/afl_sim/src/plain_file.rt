@@ -82,7 +82,7 @@ impl<const CAP: usize> PlainFile<CAP> {
         read_bytes(&self.bytes[..], at, into);
     }
 
-    /// Makes room for so many records and bytes, whatever it was before.
+    /// Makes room for this many records and bytes, whatever it was before.
     pub fn grant(&mut self, records: u16, room: usize)
         requires room { length self.old.bytes + room ≤ CAP }
         ensures { self.new ≡ record self.old { records = records; room = room } }

@@ -95,7 +95,7 @@ fn pages(kind: Kind, size: u32) -> u16
     }
 }
 
-// Whether an extent of so many pages has more bytes than an array.
+// Whether an extent of this many pages has more bytes than an array.
 fn is_lacking(cap: usize, pages: u16) -> bool
     ensures { MatchBool result (cap + 32 < 256 * pages) (256 * pages ≤ cap + 32) }
 {
@@ -174,7 +174,7 @@ impl<const CAP: usize> Files for PlainFiles<CAP> {
         Ok(())
     }
 
-    /// `Space` comes exactly where an extent of so many pages as the file would count is lacking.
+    /// `Space` comes exactly where an extent of this many pages as the file would count is lacking.
     fn prepare(&mut self, id: FileId, overwrites: u16, bytes: u32) -> Result<(), FileError>
         requires live { IsLive self.old.files id }
         requires idle { self.old.draft ≡ None }

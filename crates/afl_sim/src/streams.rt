@@ -127,7 +127,7 @@ impl<'a> MemSink<'a> {
         &self.bytes[..self.held]
     }
 
-    // Puts `given`, for which there is room, behind the bytes held.
+    // Puts `given`, for which there is room, after the bytes held.
     fn take_in(&mut self, given: &[u8])
         requires { length given.now ≤ self.old.room }
         ensures held { self.new.held ≡ self.old.held ++ given.now }

@@ -1,4 +1,4 @@
--- What one pass tells of its numbers.
+-- What one pass finds out about its numbers.
 use Rattle.std.specs.Prelude.{◌≡◌, ℤ, List, length}
 use Rattle.aggregate.specs.declared.summary.Summary.{Summary}
 use Rattle.db_model.specs.Answers.{total, least, greatest}

@@ -81,7 +81,7 @@ impl Fold {
     }
 
     /// Ends this pass, and says whether another one over the same values is wanted. An aggregate
-    /// other than MEDIAN wants one pass, and MEDIAN at most 9.
+    /// other than MEDIAN needs one pass, and MEDIAN at most 9.
     pub fn end_pass(&mut self) -> bool
         ensures agg { self.new.agg ≡ self.old.agg }
         ensures passes { self.new.passes

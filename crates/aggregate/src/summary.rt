@@ -1,4 +1,4 @@
-//! What one pass tells of its numbers.
+//! What one pass finds out about its numbers.
 
 #![tactic(auto)]
 

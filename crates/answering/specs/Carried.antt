@@ -29,7 +29,7 @@ pub record Standing : Type 0 where
   pub held : Option (List ℕ)
   pub reads : ℕ
 
--- what is so of a command that goes no further: it lacks so many pages; or it broke off at a database
+-- what is so of a command that goes no further: it lacks this many pages; or it broke off at a database
 pub record Limits : Type 1 where
   pub Lacks : Command → ℕ → Type 0
   pub Breaks : Database → Command → Type 0
@@ -122,7 +122,7 @@ standing_of state reads session held = record {
   reads = reads session.files;
 }
 
--- what stops a command of a session: pages that its files lack; or a failure of the files, where failures are cuts, behind which they
+-- what stops a command of a session: pages that its files lack; or a failure of the files, where failures are cuts, after which they
 -- mend to a database between that before the command and that after it
 abbrev pub limits_of : {V : Type 0} → FilesOf V → Seen V → Limits
 limits_of files session = record {

@@ -13,7 +13,7 @@ struct Memory {
 }
 
 /// The status of a run, or of a repair, on an image in a file, of which no page is read from the file twice. Where
-/// memory as long as the image is not to be had, the run does without it, and ends with the same.
+/// memory as long as the image is not available, the run does without it, and ends with the same.
 pub fn status_in_memory<R, S, K>(
     rt: &R,
     words: &[String],
@@ -36,7 +36,7 @@ where
     status
 }
 
-// Memory for so many sectors, or for none where it is wanting.
+// Memory for this many sectors, or for none where it is wanting.
 fn memory_for<R: AllocGlobal>(rt: &R, sectors: u16) -> Memory {
     let sectors = usize::from(sectors);
     match (

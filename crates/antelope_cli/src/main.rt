@@ -15,7 +15,7 @@
 //!
 //! A page of the image that was read once is not read from the file again: the run keeps it in memory,
 //! as much as the image is long. What it changes goes into the file at once. Where that memory is not
-//! to be had, the run reads from the file each time, and ends with no other status.
+//! available, the run reads from the file each time, and ends with no other status.
 //!
 //! Where `ANTELOPE_SYNC` is set in the environment and not empty, each write into the image is on the disk before the
 //! next, and before the reply to its command.
@@ -60,7 +60,7 @@ where
             Ok(status_in_memory(rt, words, &mut source, &mut out, image.flash))
         }
         Some(names) => with_script(rt, words, names.image, names.input, &mut out),
-        // Words of no form name no image: of them `top` answers 1, whatever the flash.
+        // Wrong arguments name no image: `top` answers 1 for them, whatever the flash.
         None => Ok(1),
     }
 }

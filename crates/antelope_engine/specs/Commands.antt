@@ -1,4 +1,4 @@
--- What is said of a session behind a command.
+-- What is said of a session after a command.
 use Rattle.std.specs.Prelude.{◌≡◌, ◌≤◌, ℕ, true, false, List, IsTrue, IsErrOf, OnErr, OnOk, Option, Result}
 use Rattle.afl_base.specs.declared.files.Files.{Ghosts as FilesOf}
 use Rattle.afl_base.specs.declared.stream.Sink.{Ghosts as SinkOf}
@@ -17,7 +17,7 @@ use Rattle.session_model.specs.Wanted.{WantsOver}
 use Rattle.space_model.specs.Enough.{most}
 use Rattle.antelope_engine.specs.Seen.{OnNothingDone, Seen}
 
--- a command wants n pages of the session's files, no more than are counted for it, and none can be had
+-- a command needs n pages of the session's files, no more than are counted for it, and none is available
 pub record LacksPages {V : Type 0} (state : V → State) (asks : V → ℕ → ℕ → ℕ → ℕ → Type 0) (lacks : V → ℕ → Type 0) (session : Seen V) (command : Command) (n : ℕ) : Type 0 where
   pub wants : WantsOver (asks session.files) (state session.files).files session.database command n
   pub few : n ≤ most session.database command

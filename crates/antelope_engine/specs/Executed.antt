@@ -19,7 +19,7 @@ use Rattle.space_model.specs.Enough.{most}
 use Rattle.antelope_engine.specs.Commands.{IsBrokenOff}
 use Rattle.antelope_engine.specs.Seen.{WhereDone, WhereNoSpace, OnNothingDone}
 
--- a command was carried out and its reply written, and took no extent where it wants none; or there was no space for it, and
+-- a command was carried out and its reply written, and took no extent where it needs none; or there was no space for it, and
 -- nothing was written; or what of the reply was written before a fault
 pub record Executes {V K : Type 0} (v : FilesOf V) (k : SinkOf K) (command : Command) (old new : Base V) (before now : K) (result : Result Step Fault) : Type 0 where
   pub done : Tells v old → IfOk result (λ came.

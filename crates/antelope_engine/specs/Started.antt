@@ -1,4 +1,4 @@
--- What came of a start, and the files that are handed back.
+-- The result of a start, and the files that are handed back.
 use Rattle.std.specs.Prelude.{⊤, ℕ, ◌≤◌, Result, Ok, Err, IfErr}
 use Rattle.afl_base.specs.Causes.{Rose}
 use Rattle.session_start.specs.declared.starting.BrokenRule.{BrokenRule}

@@ -189,7 +189,7 @@ fn slots_limit(version: u8) -> u16
     }
 }
 
-// The buckets of a tree's file of so many bytes.
+// The buckets of a tree's file of this many bytes.
 fn buckets_in(size: u32) -> u16
     ensures { (n : ℕ) → n ≤ 1365 → size ≡ 683 + 195 * n → result ≡ n }
 {

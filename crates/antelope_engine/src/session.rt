@@ -160,7 +160,7 @@ impl<V: Files> Session<V> {
     }
 
     /// Carries out a command and writes its reply. Where there is no space for it, which is no
-    /// error, nothing is changed or written. A command that wants no extent takes no page that was free.
+    /// error, nothing is changed or written. A command that needs no extent takes no page that was free.
     ///
     /// # Errors
     ///

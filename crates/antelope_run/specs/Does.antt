@@ -56,7 +56,7 @@ module _ (old new : Standing) where
   abbrev pub TellsOn : Result ⊤ InputEnding → Type 0
   TellsOn result = result ≢ Err (Early Flash) → new.tells ≡ old.tells
 
-  -- what was done of a form, on a flash of so many sectors
+  -- what was done of a form, on a flash of this many sectors
   abbrev pub DoesForm : (sectors : ℕ) → (left left_now : Option (List ℕ)) → Limits → Form → Result ⊤ InputEnding → Type 0
   DoesForm sectors left left_now limits (Gen seed count) result = TellsOn result × Generates limits (first_commands seed count) result
   DoesForm sectors left left_now limits (Plan rows) result = TellsOn result × WritesText (plan_reply old.database rows sectors) result

@@ -27,7 +27,7 @@ use serve::serve_line;
 use space_plan::FurtherRows;
 use workload_run::generate;
 
-/// Carries out what a form asks for on a flash of so many sectors.
+/// Carries out what a form asks for on a flash of this many sectors.
 // Not inlined, since its caller would keep a second session on its stack.
 #[inline(never)]
 pub fn carry_out<V: Files, S: Source, K: Sink>(
@@ -97,7 +97,7 @@ fn halted(done: Result<(), Ending>) -> Result<(), InputEnding>
     }
 }
 
-// Writes how many sectors are planned for so many rows more, and how many there are, or that a relation is
+// Writes how many sectors are planned for this many rows more, and how many there are, or that a relation is
 // not there.
 fn plan<V: Files, K: Sink>(
     session: &mut Session<V>,

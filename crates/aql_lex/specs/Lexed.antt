@@ -24,7 +24,7 @@ OnBad (Found token from to) P = Unit {0}
 OnBad End P = Unit {0}
 OnBad Bad P = P
 
--- the place behind the white space from a place on
+-- the place after the white space from a place on
 abbrev pub behind_white : List ℕ → ℕ → ℕ
 behind_white bytes at = at + prefix_len is_white (drop at bytes)
 

@@ -4,7 +4,7 @@
 
 use db_model::Token;
 
-/// What stands at a place of a command, behind the white space there.
+/// What stands at a place of a command, after the white space there.
 #[derive(Clone, Copy, Debug, PartialEq, Eq)]
 pub enum Lexed {
     /// The longest token there, in the bytes `from..to` of the command.

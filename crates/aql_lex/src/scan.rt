@@ -13,9 +13,9 @@ ghost use Rattle.db_model.specs.Tokens.{is_white, number_at, number_token, quote
 use crate::lexed::Lexed;
 use db_model::{Ident, Keyword, Sign, Text, Token};
 
-/// The longest token at the place `at` of a command's bytes, behind the white space there.
+/// The longest token at the place `at` of a command's bytes, after the white space there.
 /// `End` comes exactly where only white space is left, and `Bad` exactly where no token begins
-/// behind the white space.
+/// after the white space.
 pub fn next_token(bytes: &[u8], at: u16) -> Lexed
     requires within { at ≤ length bytes.now }
     requires few { length bytes.now ≤ 512 }
@@ -113,7 +113,7 @@ fn value_of(digits: &[u8]) -> u64
     value
 }
 
-// A text and its closing quote, behind the opening one; the length counts both quotes.
+// A text and its closing quote, after the opening one; the length counts both quotes.
 fn quoted_at(bytes: &[u8]) -> Option<(Token, usize)>
     ensures token { result ≡ quoted_at bytes.now }
     ensures within { IfSome result (λ found. (1 < found.1) × (found.1 ≤ 1 + length bytes.now)) }
@@ -126,7 +126,7 @@ fn quoted_at(bytes: &[u8]) -> Option<(Token, usize)>
     Some((Token::Quoted(text), len + 2))
 }
 
-// A sign by its first byte and those behind it.
+// A sign by its first byte and those after it.
 fn sign_at(first: u8, behind: &[u8]) -> Option<(Token, usize)>
     ensures token { result ≡ sign_at first behind.now }
     ensures within { IfSome result (λ found. (0 < found.1) × (found.1 ≤ 1 + length behind.now)) }
@@ -174,7 +174,7 @@ fn greater_than(next: u8) -> (Sign, usize)
     }
 }
 
-// The byte at a place, 0 behind the last.
+// The byte at a place, 0 after the last.
 fn byte_at(bytes: &[u8], at: usize) -> u8
     ensures { result ≡ get_or bytes.now at 0 }
 {

@@ -46,7 +46,7 @@ token_kind (Word KMAXHEAP) = Some kind.MaxHeap
 token_kind (Word KMEMHASH) = Some kind.MemHash
 token_kind _ = None
 
--- a value, behind a minus or not
+-- a value, after a minus or not
 abbrev pub token_value : Bool → Token → Option Value
 token_value negative (Number z) = Some (value.Number (if negative then minus z else z))
 token_value negative (Quoted bytes) = Some (value.Text bytes)
@@ -60,7 +60,7 @@ abbrev pub is_from : Token → Bool
 is_from (Word KFROM) = true
 is_from _ = false
 
--- the words that a relation's name follows, behind lists and domains
+-- the words that a relation's name follows, after lists and domains
 abbrev pub introduces : Token → Bool
 introduces (Word KFROM) = true
 introduces (Word KINTO) = true
@@ -93,7 +93,7 @@ abbrev pub values_in : Bool → List Token → List Value
 values_in negative [] = []
 values_in negative (t ∷ ts) = elim (token_value negative t) [ Some v ↦ v ∷ values_in (is_minus t) ts | None ↦ values_in (is_minus t) ts ]
 
--- the aggregates up to FROM: behind its word and a bracket stands the name of each
+-- the aggregates up to FROM: after its word and a bracket stands the name of each
 abbrev pub aggregates_in : List Token → List (Agg × List ℕ)
 aggregates_in [] = []
 aggregates_in (t ∷ ts) =
@@ -102,7 +102,7 @@ aggregates_in (t ∷ ts) =
       | false ↦ elim (token_agg t) [ Some a ↦ elim (name_at ts 1) [ Some n ↦ (a, n) ∷ aggregates_in ts | None ↦ aggregates_in ts ] | None ↦ aggregates_in ts ]
     ]
 
--- the name behind the first FROM, INTO or IN
+-- the name after the first FROM, INTO or IN
 abbrev pub relation_in : List Token → Option (List ℕ)
 relation_in [] = None
 relation_in (t ∷ ts) = elim (introduces t) [ true ↦ name_at ts 0 | false ↦ relation_in ts ]
@@ -155,7 +155,7 @@ insert_of ts = option_and_then (λ relation. option_map (λ values. command.Inse
 abbrev pub select_of : List Token → List Node → Option Query
 select_of ts nodes = option_and_then (λ relation. option_map (λ list. query.Select list relation nodes) (at_most_8 (name_tokens ts))) (relation_in ts)
 
--- the names behind PROJECT, which is the sixth token
+-- the names after PROJECT, which is the sixth token
 abbrev pub projected_tokens : List Token → Option (List (List ℕ))
 projected_tokens ts = if nat_lt (length ts) 6 then None else at_most_8 (name_tokens (drop 6 ts))
 

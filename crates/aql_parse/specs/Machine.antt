@@ -69,7 +69,7 @@ head_move _ _ = None
 
 -- ---- names, values and words
 
--- another item behind a comma, where there may be one
+-- another item after a comma, where there may be one
 abbrev pub another : ℕ → Symbol → (ℕ → Symbol) → Option Move
 another n item more = if n == 0 then None else to (item ∷ more (n - 1) ∷ [])
 

@@ -211,7 +211,7 @@ fn insert_of(tokens: &[Token], command: &mut Command) -> bool
     }
 }
 
-// Behind a command of another kind.
+// After a command of another kind.
 fn first_insert_of(tokens: &[Token], relation: Ident, command: &mut Command) -> bool
     requires { relation_in tokens.now ≡ Some relation }
     ensures { made result command.new ≡ insert_of tokens.now }
@@ -222,7 +222,7 @@ fn first_insert_of(tokens: &[Token], relation: Ident, command: &mut Command) -> 
     fits
 }
 
-// Names or aggregates, behind SELECT.
+// Names or aggregates, after SELECT.
 fn selection_of(tokens: &[Token], nodes: &mut Condition, command: &mut Command) -> bool
     ensures { made result command.new ≡ selection_of tokens.now nodes.old }
 {

@@ -159,7 +159,7 @@ fn factor_moves(token: &Token, stack: &mut Stack, nodes: &mut Nodes) -> bool
     true
 }
 
-// The number behind a minus.
+// The number after a minus.
 fn negative_moves(token: &Token, nodes: &mut Nodes) -> bool
     ensures stack { (stack : List SymbolType)
         → Moved (condition_move Symbol.Negative token.now) stack stack result }

@@ -11,7 +11,7 @@ use db_model::{Few, Token};
 /// taken while its tokens are read.
 pub type Head = Few<Token, 42>;
 
-/// Keeps a token behind those that came, if it is one of the first 42.
+/// Keeps a token after those that came, if it is one of the first 42.
 pub fn keep(head: &mut Head, token: &Token)
     ensures { head.new ≡ first_tokens (head.old ++ token.now ∷ []) }
 {

@@ -1,4 +1,4 @@
-//! The lists in the head of a command, and the relation behind them.
+//! The lists in the head of a command, and the relation after them.
 
 #![tactic(auto)]
 
@@ -66,7 +66,7 @@ pub fn aggregates_in(tokens: &[Token]) -> Option<AggList>
     Some(list)
 }
 
-/// The name behind the first FROM, INTO or IN.
+/// The name after the first FROM, INTO or IN.
 pub fn relation_in(tokens: &[Token]) -> Option<Ident>
     ensures { result ≡ relation_in tokens.now }
 {

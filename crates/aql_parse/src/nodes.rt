@@ -34,7 +34,7 @@ impl Nodes {
         self.over = false;
     }
 
-    /// Puts a node behind the others.
+    /// Puts a node after the others.
     pub fn put(&mut self, node: Node)
         ensures { self.new ≡ kept_one self.old node }
     {

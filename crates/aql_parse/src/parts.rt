@@ -42,7 +42,7 @@ fn token_kind(token: &Token) -> Option<IndexKind>
     }
 }
 
-/// A value, behind a minus or not.
+/// A value, after a minus or not.
 pub fn token_value(negative: bool, token: &Token) -> Option<Value>
     ensures { result ≡ token_value negative token.now }
 {
@@ -69,7 +69,7 @@ pub fn is_from(token: &Token) -> bool
     matches!(token, Token::Word(Keyword::KFROM))
 }
 
-/// The words that a relation's name follows, behind lists and domains.
+/// The words that a relation's name follows, after lists and domains.
 pub fn introduces(token: &Token) -> bool
     ensures { result ≡ introduces token.now }
 {

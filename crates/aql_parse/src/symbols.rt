@@ -21,13 +21,13 @@ pub enum Joint {
 #[derive(Clone, Copy, Debug, PartialEq, Eq)]
 pub enum Symbol {
     Command,
-    /// Behind CREATE.
+    /// After CREATE.
     Create,
-    /// Behind REMOVE.
+    /// After REMOVE.
     Remove,
-    /// Behind OPEN and its number.
+    /// After OPEN and its number.
     Query,
-    /// Behind SELECT: a list of names or of aggregates, and what follows it.
+    /// After SELECT: a list of names or of aggregates, and what follows it.
     Selection,
     Name,
     Number,
@@ -46,30 +46,30 @@ pub enum Symbol {
     Closing,
     Comma,
     Dot,
-    /// At most so many items more, each behind a comma.
+    /// At most this many items more, each after a comma.
     MoreNames(u8),
     MoreValues(u8),
     MoreAggregates(u8),
     /// WHERE and a condition, which may be left out.
     Where,
-    /// A condition without AND and OR, inside so many brackets of which it is not known yet
+    /// A condition without AND and OR, inside this many brackets of which it is not known yet
     /// whether they hold a condition or an expression.
     Inside(u16),
-    /// What makes a condition of an expression, inside so many such brackets.
+    /// What makes a condition of an expression, inside this many such brackets.
     Behind(u16),
-    /// What may follow a condition without AND and OR inside so many brackets of conditions.
+    /// What may follow a condition without AND and OR inside this many brackets of conditions.
     Around(u16),
     /// AND and a condition, any number of times.
     Ands,
     /// OR and a condition, any number of times.
     Ors,
     Factor,
-    /// The number behind its minus.
+    /// The number after its minus.
     Negative,
     /// `*` or `/` and a factor, any number of times.
     Products,
     /// `+` or `-` and a term, any number of times.
     Sums,
-    /// Nothing more to read: the node goes behind those that it joins.
+    /// Nothing more to read: the node goes after those that it joins.
     Join(Joint),
 }

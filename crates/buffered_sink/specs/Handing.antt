@@ -13,7 +13,7 @@ pub record Hands (old new : Option (List ℕ)) (waited waits : List ℕ) : Type 
   pub split : waited ≡ went ++ waits
   pub held : new ≡ append_known old went
 
--- of what was to be written behind what a sink held, a front part was: `left` was not
+-- of what was to be written after what a sink held, a front part was: `left` was not
 pub record WroteFront (old new wanted : Option (List ℕ)) : Type 0 where
   pub written : List ℕ
   pub left : List ℕ

@@ -26,12 +26,12 @@ impl Since for Brand {
 }
 
 /// Stands before a sink and hands bytes on once 512 are there, or when it is told to. As a sink it
-/// holds what the one behind holds, and then what waits; a call of it fails where one of that sink fails.
-/// What waits when it is let go is lost. The sink behind holds what it held at the time of `S`, and what
+/// holds what the one below holds, and then what waits; a call of it fails where one of that sink fails.
+/// What waits when it is let go is lost. The sink below holds what it held at the time of `S`, and what
 /// was handed on since.
 #[derive(Drop)]
 pub struct Buffered<'a, K: Sink, S: Since> {
-    /// The sink behind it.
+    /// The sink below it.
     pub out: &'a mut K,
     /// What that one has not taken yet.
     pub waiting: &'a mut Waiting,
@@ -42,7 +42,7 @@ pub struct Buffered<'a, K: Sink, S: Since> {
 }
 
 impl<'a, K: Sink, S: Since> Buffered<'a, K, S> {
-    /// Hands on what waits. `Failed` leaves what the sink behind did not take.
+    /// Hands on what waits. `Failed` leaves what the sink below did not take.
     pub fn flush(&mut self) -> Result<(), Failed>
         ensures hands { Hands (K.held self.old.out.now) (K.held self.new.out.now)
             self.old.waiting.now.bytes self.new.waiting.now.bytes }

@@ -1,4 +1,4 @@
--- Copies of some bytes, one behind the other.
+-- Copies of some bytes, one after the other.
 use Rattle.std.specs.Prelude.{ℕ, zero, suc, List, [], ◌++◌}
 
 unfoldable pub copies : ℕ → List ℕ → List ℕ

@@ -16,11 +16,11 @@ is_schema_slot version (Some schema) = is_schema version schema
 abbrev pub AreSchemas : ℕ → List (Option Schema) → Type 0
 AreSchemas version relations = (k : ℕ) → is_schema_slot version (get_or relations k None) ≡ true
 
--- each index may stand behind those before it
+-- each index may stand after those before it
 abbrev pub AreBehind : List (Option Schema) → List (Option Index) → Type 0
 AreBehind relations indexes = (i : ℕ) → is_behind relations (take i indexes) (get_or indexes i None) ≡ true
 
--- eight slots of each kind, with schemas of the version, and indexes that may stand behind those before them
+-- eight slots of each kind, with schemas of the version, and indexes that may stand after those before them
 pub record IsFormed (catalog : Catalog) : Type 0 where
   pub version : (catalog.version ≡ 1) ⊎ (catalog.version ≡ 2)
   pub eight_relations : length catalog.relations ≡ 8

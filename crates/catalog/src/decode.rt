@@ -42,7 +42,7 @@ fn read_schema(slot: &[u8], version: u8) -> Option<Schema>
     Some(Schema { name, attributes })
 }
 
-// The first `n` attributes, None where there are more than 8 or one is of no form.
+// The first `n` attributes, None where there are more than 8 or one is malformed.
 fn read_attributes(n: usize, bytes: &[u8], version: u8) -> Option<Attributes>
     requires { 144 ≤ length bytes.now }
     ensures { result ≡ (if nat_le n 8 && list_all (is_attribute_slot version) (attributes_of n bytes.now)

@@ -88,7 +88,7 @@ fn sound_index(
     Some(index)
 }
 
-// Whether the index, if there is one, may stand behind those before it.
+// Whether the index, if there is one, may stand after those before it.
 fn is_behind(
     relations: &[Option<Schema>],
     before: &[Option<IndexEntry>],
@@ -118,7 +118,7 @@ fn is_index_behind(
     !is_third_table(before, entry)
 }
 
-// Whether the index is a hash table behind two others.
+// Whether the index is a hash table after two others.
 fn is_third_table(before: &[Option<IndexEntry>], entry: &IndexEntry) -> bool
     ensures { result ≡ is_third_table (indexes_in before.now) (index_in entry.now) }
 {

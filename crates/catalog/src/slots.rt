@@ -155,7 +155,7 @@ pub fn first_catalog(at: usize, slot: &[u8]) -> [u8; SIZE_OF_VERSION_2 as usize]
 // The bytes of a catalog of version 1: eight relation slots and eight index slots.
 pub const SIZE_OF_VERSION_1: u32 = 1_472;
 
-// The bytes of one of version 2, in which a mark comes behind the slots.
+// The bytes of one of version 2, in which a mark comes after the slots.
 pub const SIZE_OF_VERSION_2: u32 = 1_480;
 
 // The mark.

@@ -46,7 +46,7 @@ pub record IsCutBy (image : List ℕ) (trouble : Trouble) : Type 0 where
   pub found : IsFound image (meant trouble.under_way)
   pub settles : IsSoundBut (settled image (meant trouble.under_way)) trouble.torn
 
--- a page lies inside a flash of so many bytes
+-- a page lies inside a flash of this many bytes
 abbrev pub HasPage : (size page : ℕ) → Type 0
 HasPage size page = 256 * page + 256 ≤ size
 

@@ -125,7 +125,7 @@ IsOfOthers u = (h : Header) → u ≡ Extent h → (h.flags ≢ 2) × (h.flags �
 abbrev pub ShowsNoHeader : List ℕ → ℕ → Type 0
 ShowsNoHeader image page = (flags : ℕ) → (flags ≡ 2) ⊎ ((flags ≡ 3) ⊎ (flags ≡ 19)) → IsActiveAt image page flags → ⊥
 
--- no unit begins at a page, and all behind it in its sector is zero
+-- no unit begins at a page, and all after it in its sector is zero
 pub record IsTornHead (image : List ℕ) (page : ℕ) : Type 0 where
   pub torn : unit_at image page ≡ None
   pub last : is_zeros (slice_range image (256 * page + 256) (4096 * (page / 16) + 4096)) ≡ true

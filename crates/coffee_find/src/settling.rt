@@ -68,7 +68,7 @@ fn torn_record<F: Flash>(flash: &mut F, log: PageId) -> Result<Verdict, Failed>
     Ok(Verdict::Torn(TornRecord { log, place }))
 }
 
-// Whether a log with so many records in use has none left.
+// Whether a log with this many records in use has none left.
 fn is_full(used: u32) -> bool
     ensures yes { result ≡ true → used ≡ 30 }
     ensures no { result ≡ false → used ≢ 30 }

@@ -38,7 +38,7 @@ pub(crate) fn find_torn_header<F: Flash>(
     find_isolated(flash, page)
 }
 
-// Whether no unit begins at a page, and all behind it in its sector is zero.
+// Whether no unit begins at a page, and all after it in its sector is zero.
 fn is_torn_head<F: Flash>(flash: &mut F, page: PageId) -> Result<bool, Failed>
     ensures torn { IsTrue F.tells → IfOk result (λ r. r ≡ true → unit_at (F.image flash.old) page.0 ≡ None) }
     ensures last { IsTrue F.tells → IfOk result (λ r. r ≡ true

@@ -80,7 +80,7 @@ fn has_its_log<F: Flash>(flash: &mut F, header: &Header) -> Result<bool, Failed>
     is_active_at(flash, PageId(header.log_page - 1), 19)
 }
 
-// The first active file behind one that has its name.
+// The first active file after one that has its name.
 fn twin_of<F: Flash>(flash: &mut F, file: &PlacedFile) -> Result<Option<PlacedFile>, Failed>
     requires page { HasPage (length (F.image flash.old)) file.now.page.0 }
     ensures file { IsTrue F.tells → IfOk result (λ r. IfSome r (λ f. IsFileIn (F.image flash.old) f)) }

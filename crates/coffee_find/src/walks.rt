@@ -38,7 +38,7 @@ pub(crate) fn begun<F: Flash>(flash: &mut F, page: PageId) -> Result<Option<Unit
     Ok(None)
 }
 
-// The page behind a unit, None where it has no page or ends behind the flash.
+// The page after a unit, None where it has no page or ends beyond the flash.
 pub(crate) fn onward(page: u16, unit: &Unit, pages: u16) -> Option<u16>
     ensures next { IfSome result (λ n. (n ≡ page + size_of unit.now) × (page < n) × (n ≤ pages)) }
     ensures none { IfNone result (1 ≤ size_of unit.now → pages < page + size_of unit.now) }

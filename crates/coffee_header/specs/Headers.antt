@@ -21,7 +21,7 @@ is_kind kind = kind == 0 || kind == 1
 abbrev pub name_of_field : List ℕ → List ℕ
 name_of_field field = take (prefix_len is_name_byte field) field
 
--- a name field holds a name, and zeros behind it
+-- a name field holds a name, and zeros after it
 abbrev pub is_name_field : List ℕ → Bool
 is_name_field field = is_file_name (name_of_field field) && is_zeros (drop (prefix_len is_name_byte field) field)
 

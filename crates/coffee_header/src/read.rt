@@ -36,7 +36,7 @@ fn header_in(bytes: &[u8]) -> Option<Header>
     })
 }
 
-// The name of a name field, None where the field does not hold a name and zeros behind it.
+// The name of a name field, None where the field does not hold a name and zeros after it.
 fn read_name(field: &[u8]) -> Option<Name>
     ensures { result ≡ (if is_name_field field.now then Some (name_of_field field.now) else None) }
 {

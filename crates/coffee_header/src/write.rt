@@ -27,7 +27,7 @@ fn put_header(header: &Header, bytes: &mut [u8])
     put_name(header.name.bytes(), &mut bytes[10..]);
 }
 
-// `name`, and zeros behind it.
+// `name`, and zeros after it.
 fn put_name(name: &[u8], field: &mut [u8])
     requires { length name.now ≤ length field.old }
     ensures { field.new ≡ padded (length field.old) name.now }

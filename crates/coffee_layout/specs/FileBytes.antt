@@ -21,7 +21,7 @@ unfoldable pub last_in : List ℕ → ℕ → ℕ → Option ℕ
 last_in table region zero = None
 last_in table region (suc n) = if number_in table n == region + 1 then Some n else last_in table region n
 
--- the number of records in use: so many numbers from the front are not 0
+-- the number of records in use: this many numbers from the front are not 0
 abbrev pub used_in : List ℕ → ℕ
 used_in table = prefix_len (λ i. not (number_in table i == 0)) records
 
@@ -51,7 +51,7 @@ file_byte image page log p = slice_index image (region_place image page log (p /
 abbrev pub trimmed : List ℕ → List ℕ
 trimmed bytes = take (length bytes - suffix_len (λ b. b == 0) bytes) bytes
 
--- the bytes of a file with an extent of so many pages
+-- the bytes of a file with an extent of this many pages
 unfoldable pub file_bytes : List ℕ → (page pages : ℕ) → Option PageId → List ℕ
 file_bytes image page pages log = trimmed (map (file_byte image page log) (range_with_len 0 (256 * pages - 32)))
 

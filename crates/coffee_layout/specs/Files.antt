@@ -53,7 +53,7 @@ abbrev pub used_of : List ℕ → Option PageId → ℕ
 used_of image None = 0
 used_of image (Some log) = used_in (table_of image log.0)
 
--- the entry of a file, with this size and so many records in use
+-- the entry of a file, with this size and this many records in use
 abbrev pub entry_with : Placed → (size used : ℕ) → FileAt
 entry_with f size used = record {
   name = f.header.name;
@@ -86,7 +86,7 @@ named_file image f = record { name = f.header.name; kind = kind_of f.header; byt
 abbrev pub files_of : List ℕ → List NamedFile
 files_of image = map (named_file image) (files_in (units_of image))
 
--- an entry lies inside a flash of so many pages, with its log
+-- an entry lies inside a flash of this many pages, with its log
 pub record FitsIn (pages : ℕ) (e : FileAt) : Type 0 where
   pub some : 1 ≤ e.pages
   pub placed : e.page.0 + e.pages ≤ pages

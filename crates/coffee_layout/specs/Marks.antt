@@ -21,7 +21,7 @@ used_pages us = pages_by (λ u. not (is_free u)) us
 abbrev pub active_pages : List Unit → List Bool
 active_pages us = pages_by is_active us
 
--- n marked pages one behind the other, from a page on
+-- n marked pages one after the other, from a page on
 abbrev pub IsRun : List Bool → ℕ → ℕ → Type 0
 IsRun marks page n = (i : ℕ) → page ≤ i → i < page + n → slice_index_or marks i false ≡ true
 
@@ -30,7 +30,7 @@ pub record IsLowestRun (marks : List Bool) (n page : ℕ) : Type 0 where
   pub run : IsRun marks page n
   pub lowest : (earlier : ℕ) → earlier < page → IsRun marks earlier n → ⊥
 
--- nowhere are n marked pages one behind the other
+-- nowhere are n marked pages one after the other
 abbrev pub NoRun : List Bool → ℕ → Type 0
 NoRun marks n = (page : ℕ) → IsRun marks page n → ⊥
 
@@ -42,7 +42,7 @@ in_sector marks sector = slice_range marks (16 * sector) (16 * sector + 16)
 abbrev pub is_taken : List Unit → ℕ → Bool
 is_taken us sector = list_any (λ m. m) (in_sector (used_pages us) sector) && not (list_any (λ m. m) (in_sector (active_pages us) sector))
 
--- no n pages one behind the other are free, and collection would take no sector
+-- no n pages one after the other are free, and collection would take no sector
 pub record IsCramped (us : List Unit) (n : ℕ) : Type 0 where
   pub full : NoRun (free_pages us) n
   pub kept : (sector : ℕ) → is_taken us sector ≡ false

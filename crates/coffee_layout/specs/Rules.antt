@@ -75,7 +75,7 @@ abbrev pub fits_its_file : List ℕ → List Placed → (page : ℕ) → Bool
 fits_its_file image [] page = true
 fits_its_file image (f ∷ fs) page = if names_log page f then has_regions_inside f.header.max_pages (length (bytes_of image f)) (table_of image page) else fits_its_file image fs page
 
--- rule 12, of the log at a page: bytes 92 to 95, and all bytes behind the records in use, are zero.
+-- rule 12, of the log at a page: bytes 92 to 95, and all bytes after the records in use, are zero.
 -- Where rule 10 holds, these are the free records and the bytes 3,936 to 4,095.
 abbrev pub is_clear : List ℕ → ℕ → Bool
 is_clear image page =

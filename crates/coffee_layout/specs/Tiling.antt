@@ -1,4 +1,4 @@
--- Tilings: the units of an image one behind the other, and the rules 1 to 4 at each of them.
+-- Tilings: the units of an image one after the other, and the rules 1 to 4 at each of them.
 use Rattle.std.specs.Prelude.{◌≡◌, ⊤, ℕ, zero, suc, ◌+◌, ◌*◌, ◌%◌, ◌≤◌, Bool, false, ◌&&◌, ◌||◌, not, ◌==◌, nat_lt, List, [], ◌∷◌, length, Option, Some, None, if◌then◌else◌}
 use Rattle.std.specs.Option.{option_or}
 use Rattle.afl_base.specs.Image.{page_bytes}
@@ -35,7 +35,7 @@ broken_at building image page after_free =
 abbrev pub nowhere : ℕ → Bool
 nowhere page = false
 
--- the units stand in the image one behind the other from a page on, and each keeps the rules 1 to 4
+-- the units stand in the image one after the other from a page on, and each keeps the rules 1 to 4
 abbrev pub KeepRules : (building : ℕ → Bool) → List ℕ → ℕ → Bool → List Unit → Type 0
 KeepRules building image page after_free [] = ⊤
 KeepRules building image page after_free (u ∷ us) =
@@ -46,7 +46,7 @@ pub record IsTiled (building : ℕ → Bool) (image : List ℕ) (us : List Unit)
   pub keep : KeepRules building image 0 false us
   pub whole : 256 * total us ≡ length image
 
--- the units stand in the image one behind the other from a page on, and each has a page
+-- the units stand in the image one after the other from a page on, and each has a page
 abbrev pub StandFrom : List ℕ → ℕ → List Unit → Type 0
 StandFrom image page [] = ⊤
 StandFrom image page (u ∷ us) = (unit_at image page ≡ Some u) × (1 ≤ size_of u) × StandFrom image (page + size_of u) us

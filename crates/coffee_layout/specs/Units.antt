@@ -45,7 +45,7 @@ is_active Free = false
 is_active Isolated = false
 is_active (Extent h) = is_active_flags h.flags
 
--- the page at which a walk goes on behind the unit at a page: behind a free page that is the next
+-- the page at which a walk goes on after the unit at a page: after a free page that is the next
 -- sector, since in a tiled image all pages up to there are free
 abbrev pub behind : ℕ → Unit → ℕ
 behind page Free = page + (16 - page % 16)

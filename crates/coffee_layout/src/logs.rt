@@ -69,7 +69,7 @@ fn is_table_filled(table: &[u8]) -> bool
     true
 }
 
-/// The number of records in use: so many numbers from the front are not 0.
+/// The number of records in use: this many numbers from the front are not 0.
 #[tactic(auto, using(crate::proofs::Records::all_more, crate::proofs::Records::all_end, crate::proofs::Records::used_more, crate::proofs::Records::used_end))]
 pub fn records_used(table: &[u8]) -> usize
     requires { length table.now ≡ 60 }

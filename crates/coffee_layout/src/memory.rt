@@ -40,7 +40,7 @@ fn has_file_pages(kind: u8, pages: u16) -> bool
     }
 }
 
-/// Whether a doubling file may have so many pages: 16, 32, 64 and so on, up to 32,768.
+/// Whether a doubling file may have this many pages: 16, 32, 64 and so on, up to 32,768.
 pub fn is_doubling(pages: u16) -> bool
     ensures { result ≡ is_doubling pages }
 {

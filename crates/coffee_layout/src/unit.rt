@@ -10,7 +10,7 @@ pub enum Unit {
     Free,
     /// A page that collection has to leave until its sector is erased.
     Isolated,
-    /// A file, a log, or what is left of one: so many pages as its header says.
+    /// A file, a log, or what is left of one: this many pages as its header says.
     Extent(Header),
 }
 
@@ -26,7 +26,7 @@ impl Unit {
         }
     }
 
-    /// The page at which a walk over a tiled image goes on behind the unit at `page`: behind a free
+    /// The page at which a walk over a tiled image goes on after the unit at `page`: after a free
     /// page that is the next sector, since all pages up to there are free.
     pub fn behind(&self, page: u16) -> u16
         requires some { 1 ≤ size_of self.now }

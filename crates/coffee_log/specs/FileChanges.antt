@@ -13,7 +13,7 @@ Apart page pages log = (p : ℕ) → page ≤ p → p < page + pages → log ≤
 abbrev pub BeginsBelow : (image : List ℕ) (log used size : ℕ) → Type 0
 BeginsBelow image log used size = (i : ℕ) → i < used → 128 * (number_in (table_of image log) i - 1) < size
 
--- an extent, and its log with so many records in use, hold no byte but 0 from the size on
+-- an extent, and its log with this many records in use, hold no byte but 0 from the size on
 pub record IsFile (image : List ℕ) (page pages : ℕ) (log : Option PageId) (used size : ℕ) : Type 0 where
   pub apart : (l : PageId) → log ≡ Some l → Apart page pages l.0
   pub logged : (l : PageId) → log ≡ Some l → IsLog image l.0 used
@@ -30,7 +30,7 @@ pub record OutsideFile (page pages : ℕ) (log : Option PageId) (k : ℕ) : Type
   pub extent : Outside (256 * page + 32) (256 * pages - 32) k
   pub logged : (l : PageId) → log ≡ Some l → Outside (256 * l.0 + 32) 4064 k
 
--- the file has the bytes from a place on, so many records in use and this size; all other bytes stay
+-- the file has the bytes from a place on, this many records in use and this size; all other bytes stay
 pub record FileBecomes (old new : List ℕ) (page pages : ℕ) (log : Option PageId) (used size at : ℕ) (bytes : List ℕ) : Type 0 where
   pub kept : IsFile new page pages log used size
   pub put : Puts (file_byte old page log) (file_byte new page log) (256 * pages - 32) at bytes

@@ -365,7 +365,7 @@ fn is_logged<F: Flash>(flash: &mut F, log: PageId, region: u32) -> Result<bool, 
     }
 }
 
-// Programs bytes behind the end of a file, where no record hides them.
+// Programs bytes after the end of a file, where no record hides them.
 fn append_plain<F: Flash>(flash: &mut F, page: PageId, at: u32, bytes: &[u8]) -> Result<(), Failed>
     requires placed { 256 * page.0 + 32 + at + length bytes.now ≤ length (F.image flash.old) }
     ensures becomes { IsTrue F.tells → OnOk result
@@ -426,7 +426,7 @@ fn put_part<F: Flash>(
     ensures frame { ChangesFlash F.image F.lent F.reads F.faults flash.old flash.new result }
 {
     let region = at / 128;
-    // The last region of an extent has 96 bytes of content. What its record holds behind them is zero.
+    // The last region of an extent has 96 bytes of content. What its record holds after them is zero.
     let len = (256 * u32::from(pages) - 32 - 128 * region).min(128);
     let mut buffer = [0; 128];
     load_front(flash, page, log, 128 * region, len, &mut buffer)?;

@@ -40,7 +40,7 @@ pub record IsJoined (old new : List ℕ) (log : ℕ) : Type 0 where
   pub name : List ℕ
   pub gone : unit_begun (units_of new) 0 log ≡ Some (Extent (old_log_header name))
 
--- the file that names the log at a page has so many pages
+-- the file that names the log at a page has this many pages
 pub record OwnsLog (us : List Unit) (log pages : ℕ) : Type 0 where
   pub page : ℕ
   pub header : Header
@@ -48,7 +48,7 @@ pub record OwnsLog (us : List Unit) (log pages : ℕ) : Type 0 where
   pub names : header.log_page ≡ log + 1
   pub pages_are : header.max_pages ≡ pages
 
--- an image keeps the files of another and the log at a page, and no extent of so many pages can be had in it
+-- an image keeps the files of another and the log at a page, and no extent of this many pages is available in it
 pub record LacksRoom (old new : List ℕ) (log need : ℕ) : Type 0 where
   pub keeps : KeepsFiles old new
   pub name : List ℕ

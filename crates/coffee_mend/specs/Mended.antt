@@ -26,7 +26,7 @@ pub record IsMended (old new : List ℕ) : Type 0 where
   pub kept : (f : NamedFile) → Contains files f → Contains (files_of new) f
   pub only : (f : NamedFile) → Contains (files_of new) f → Contains files f
 
--- an image has the files of another and its torn record, and no extent of so many pages can be had in it
+-- an image has the files of another and its torn record, and no extent of this many pages is available in it
 pub record IsTornAs (old new : List ℕ) (log place need : ℕ) : Type 0 where
   pub torn : IsTornAt new log place
   pub same : SameFiles old new
@@ -42,7 +42,7 @@ pub record MendAlike (old new : List ℕ) : Type 0 where
   pub kept : (f : NamedFile) → Contains files f → Contains others f
   pub only : (f : NamedFile) → Contains others f → Contains files f
 
--- and no extent of so many pages can be had in it, as a file with a log has
+-- and no extent of this many pages is available in it, as a file with a log has
 pub record IsCrowded (old new : List ℕ) (need : ℕ) : Type 0 where
   pub alike : MendAlike old new
   pub log : ℕ

@@ -1,4 +1,4 @@
-//! What a power cut left of an image is put right: its files stay those that it mends to.
+//! What a power cut left of an image is repaired: its files stay those that it mends to.
 #![tactic(auto)]
 
 mod joining;

@@ -14,7 +14,7 @@ use flash_views::{Blanked, Handed};
 /// Why an image was not mended.
 #[derive(Clone, Copy, PartialEq, Eq, Debug)]
 pub enum MendError {
-    /// No extent of `need` pages can be had for the file whose record is torn.
+    /// No extent of `need` pages is available for the file whose record is torn.
     Space { need: u16 },
     /// The flash failed, and its count of faults rose.
     Failed,
@@ -22,7 +22,7 @@ pub enum MendError {
     Unsettled,
 }
 
-/// Puts right what a cut left of an image: it is sound then, and has just the files that it mends to. It
+/// Repairs what a cut left of an image: it is sound then, and has just the files that it mends to. It
 /// asks for pages only where a record is torn. Where the flash fails in the write that settles what was
 /// under way, `cut_settlings_mend` says what it leaves.
 pub fn mend<F: Flash>(flash: &mut F, trouble: &Trouble) -> Result<(), MendError>

@@ -7,7 +7,7 @@ use Rattle.coffee_layout.specs.declared.file.FileAt.{FileAt}
 use Rattle.coffee_merge.specs.Holding.{BeginsExtent, Copies, Entries, Logs, Moves, Stays, TakesOnly}
 use Rattle.coffee_merge.specs.Takes.{KeepsFree, LooksIn, Takes}
 
--- no space for so many pages was found, and all is left: the files are held as they were, no free page
+-- no space for this many pages was found, and all is left: the files are held as they were, no free page
 -- is taken, no such run is free even after a collection, and a further one would take no sector
 pub record LeavesAll (old new : List ℕ) (table : Entries) (need : ℕ) : Type 0 where
   pub stays : Stays old new table
@@ -15,7 +15,7 @@ pub record LeavesAll (old new : List ℕ) (table : Entries) (need : ℕ) : Type 
   pub looked : LooksIn old new need
   pub cramped : IsCramped (units_of new) need
 
--- the files are held as they were, no free page is taken, and the lowest run of so many free pages
+-- the files are held as they were, no free page is taken, and the lowest run of this many free pages
 -- begins at a page
 pub record IsObtained (old new : List ℕ) (table : Entries) (pages page : ℕ) : Type 0 where
   pub stays : Stays old new table

@@ -16,12 +16,12 @@ KeepsPagesBut old new page pages file = (p : ℕ) → Outside page pages p → h
 abbrev pub KeepsFree : (old new : List ℕ) → Type 0
 KeepsFree old new = (p : ℕ) → is_free_at new p ≡ is_free_at old p
 
--- pages are looked for in the image as it was, where so many are free in a row, else in the collected one
+-- pages are looked for in the image as it was, where this many are free in a row, else in the collected one
 pub record LooksIn (old image : List ℕ) (pages : ℕ) : Type 0 where
   pub same : (free : ℕ) → IsRun (free_pages (units_of old)) free pages → image ≡ old
   pub collected : NoRun (free_pages (units_of old)) pages → IsCollected nowhere old image (units_of old)
 
--- so many pages from a page on are taken: the first free ones in a row, before the call or after a
+-- this many pages from a page on are taken: the first free ones in a row, before the call or after a
 -- collection that was needed, and at return no such row is free before them; but for these pages, and the
 -- headers of a file and its log, nothing else has changed
 pub record Takes (old new : List ℕ) (page pages : ℕ) (file : Option FileAt) : Type 0 where

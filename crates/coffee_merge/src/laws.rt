@@ -13,7 +13,7 @@ ghost use Rattle.coffee_layout.specs.declared.file.FileAt.{FileAt};
 ghost use Rattle.coffee_merge.specs.Holding.{Entries, HoldsTable, IsIn, Moves, Stays};
 ghost use Rattle.coffee_merge.specs.TableFiles.{SameFiles, file_of, stored_files};
 
-/// The files of a sound image, in page order and with any number of free places behind them, are a
+/// The files of a sound image, in page order and with any number of free places after them, are a
 /// table that holds it. There are at most 32, and a doubling one has at most twice the pages that its
 /// size needs.
 pub fn sound_table()

@@ -66,7 +66,7 @@ pub fn grow<F: Flash>(flash: &mut F, file: &FileAt) -> Result<FileAt, FileError>
     rewrite(flash, file, 2 * file.pages)
 }
 
-// The same in a new extent of so many pages.
+// The same in a new extent of this many pages.
 fn rewrite<F: Flash>(flash: &mut F, file: &FileAt, pages: u16) -> Result<FileAt, FileError>
     requires fits { FitsIn (pages_of (F.image flash.old)) file.now }
     requires shape { has_shape file.now.kind pages ≡ true }

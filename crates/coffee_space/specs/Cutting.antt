@@ -19,7 +19,7 @@ abbrev pub IsLoose : List ℕ → ℕ → Type 0
 IsLoose image page = (page_bytes image page ≡ replicate 256 0) ⊎ (unit_at image page ≡ Some Isolated)
 
 -- the erase of a taken sector broke off, from an image of that kind and on the way to another; the pages
--- behind it of what began in it are free or isolated
+-- after it of what began in it are free or isolated
 pub record IsCutOff (building : ℕ → Bool) (old new : List ℕ) (us : List Unit) : Type 0 where
   pub sector : ℕ
   pub before : List ℕ

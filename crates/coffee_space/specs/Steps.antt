@@ -1,4 +1,4 @@
--- The three steps of collection: it isolates pages behind headers, erases sectors, and isolates headers.
+-- The three steps of collection: it isolates pages after headers, erases sectors, and isolates headers.
 use Rattle.std.specs.Prelude.{◌≡◌, ◌⊎◌, ℕ, zero, suc, ◌+◌, ◌*◌, ◌/◌, ◌<◌, ◌≤◌, Bool, true, false, ◌&&◌, not, ◌==◌, List, [], ◌∷◌, ◌++◌, length, replicate, slice_index_or}
 use Rattle.afl_base.specs.Cuts.{IsCutErase}
 use Rattle.afl_base.specs.Image.{or_at, page_bytes}
@@ -8,7 +8,7 @@ use Rattle.coffee_space.specs.Collection.{cut_pages, touches}
 use Rattle.coffee_space.specs.declared.part.Part.{Part}
 use Rattle.coffee_space.specs.declared.part.Part.TheVariants.{Behind, Header}
 
--- of so many pages the first is marked
+-- of this many pages the first is marked
 abbrev pub first_marks : ℕ → List Bool
 first_marks zero = []
 first_marks (suc n) = true ∷ replicate n false
@@ -18,7 +18,7 @@ abbrev pub unit_starts : List Unit → List Bool
 unit_starts [] = []
 unit_starts (u ∷ us) = first_marks (size_of u) ++ unit_starts us
 
--- a part of a unit: its first page, which has the header, or the pages behind
+-- a part of a unit: its first page, which has the header, or the pages after
 abbrev pub is_part : Part → (first : Bool) → Bool
 is_part Behind first = not first
 is_part Header first = first
@@ -75,7 +75,7 @@ IsolatesSomeUnit taken part old new page pages = IsolatesSomePages taken part (t
 abbrev pub IsolatesSome : (taken : ℕ → Bool) → Part → (old new : List ℕ) → List Unit → Type 0
 IsolatesSome taken part old new us = (page : ℕ) → StaysOrIsolated (is_chosen taken part us page) old new page
 
--- the taken sectors behind one are erased, and the erase of that one broke off
+-- the taken sectors after one are erased, and the erase of that one broke off
 pub record ErasesSome (taken : ℕ → Bool) (old new : List ℕ) : Type 0 where
   pub sector : ℕ
   pub before : List ℕ

@@ -17,7 +17,7 @@ use afl_base::{Failed, Flash, PageId, SectorId};
 use coffee_layout::unit_in;
 
 /// Erases the sectors that have a page in use and no active page, and answers their number. Each page
-/// that a unit has outside of them, where it has another inside, is isolated: the pages behind its
+/// that a unit has outside of them, where it has another inside, is isolated: the pages after its
 /// header before the sectors are erased, from the last to the first, and its header after. So as long
 /// as a page of an extent has bytes and is not isolated, its header stands. On an image
 /// that the rules 1 to 4 do not allow it may do nothing and answer 0. After `Failed` the image is

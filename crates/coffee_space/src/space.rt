@@ -12,7 +12,7 @@ use crate::collection::collect;
 use crate::runs::find_run;
 use afl_base::{FileError, Flash, PageId};
 
-/// The lowest page that begins `pages` free pages one behind the other. Where there are none, it
+/// The lowest page that begins `pages` free pages one after the other. Where there are none, it
 /// collects once, and looks again where that took a sector. `Space` comes exactly where the image is
 /// then cramped: no such run is free, and a further collection would take no sector. Nothing is written
 /// into the run.

@@ -1,5 +1,5 @@
 -- The table of a volume: its files are those that its image mends to between calls, and what it asks for is told by what is seen
--- of it: `Files` wants both.
+-- of it: `Files` needs both.
 use Rattle.std.proofs.Common.{◌≡◌, ℕ, ◌*◌, ◌/◌, ◌≤◌, Bool, true, false, not, ◌&&◌, List, length, get_or, Option, Some, None, IsTrue, refl, sym, ap, ◌∙◌, subst, arith}
 use Rattle.std.specs.Prelude.{option_map, is_some}
 use Rattle.std.specs.List.{Contains}

@@ -12,11 +12,11 @@ use Rattle.coffee_volume.specs.Taking.{IsDraftOf, IsFileOf, TakesWithin}
 use Rattle.coffee_volume.specs.declared.step.Step.{Step}
 use Rattle.coffee_volume.specs.declared.step.Step.TheVariants.{Grow, Merge, Log}
 
--- so many pages were looked for in the flash as it was, or, where there were none, after a collection
+-- this many pages were looked for in the flash as it was, or, where there were none, after a collection
 abbrev pub Looks : (pages : ℕ) (old new : List ℕ) → Type 0
 Looks pages old new = LooksIn old new pages
 
--- the file of this name lies in so many pages, the lowest ones
+-- the file of this name lies in this many pages, the lowest ones
 pub record PlacesFile (given : List ℕ) (pages : ℕ) (old new : List ℕ) : Type 0 where
   pub file : FileAt
   pub is : IsFileOf new given file

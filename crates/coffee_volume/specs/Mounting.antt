@@ -18,7 +18,7 @@ use Rattle.coffee_volume.specs.declared.mount.Unlisted.TheVariants.{Bad as NotSo
 
 -- THE TABLE
 
--- files under the ids from 0 on, and free places behind them
+-- files under the ids from 0 on, and free places after them
 abbrev pub mounted_table : List FileAt → EntryTable
 mounted_table files = map (λ (at : FileAt). Some (roomless at)) files ++ replicate (32 - length files) None
 

@@ -19,7 +19,7 @@ abbrev pub own_record : Option PageId → ℕ
 own_record None = 0
 own_record (Some l) = 1
 
--- the records that so many overwrites and bytes need
+-- the records that this many overwrites and bytes need
 abbrev pub records_needed : Option PageId → (overwrites bytes : ℕ) → ℕ
 records_needed log overwrites bytes = if bytes == 0 then overwrites else (if overwrites == 0 then own_record log else overwrites + 1)
 

@@ -8,7 +8,7 @@ use Rattle.coffee_volume.specs.Rooms.{has_too_few, records_needed}
 use Rattle.coffee_volume.specs.declared.step.Step.{Step}
 use Rattle.coffee_volume.specs.declared.step.Step.TheVariants.{Grow, Merge, Log}
 
--- the first step that so many overwrites and bytes ask for, but a log
+-- the first step that this many overwrites and bytes ask for, but a log
 abbrev pub step_for : FileAt → (overwrites bytes : ℕ) → Option Step
 step_for e overwrites bytes =
     if nat_lt (256 * e.pages) (e.size + bytes + 32) then Some Grow

@@ -93,14 +93,14 @@ state_seen tells image table draft = record {
   store = image;
 }
 
--- P of the bytes that all is kept in, before and now, where they are told
+-- P of the bytes of the storage, before and now, where they are told
 abbrev pub WhereTold : {S : Type 0} → (S → State) → (old new : S) → (List ℕ → List ℕ → Type 0) → Type 0
 WhereTold state old new P = IsTrue (state old).tells → P (state old).store (state new).store
 
--- no extent of so many pages can be had: the image is cramped, where it is told
+-- no extent of this many pages is available: the image is cramped, where it is told
 abbrev pub Lacks : Bool → List ℕ → ℕ → Type 0
 Lacks tells image n = IsTrue tells → IsCramped (units_of image) n
 
--- `prepare` asks for an extent of so many pages
+-- `prepare` asks for an extent of this many pages
 abbrev pub Asks : EntryTable → (id overwrites bytes need : ℕ) → Type 0
 Asks table id overwrites bytes need = (e : Entry) → IsEntry table id e → pages_asked e.at overwrites bytes ≡ Some need

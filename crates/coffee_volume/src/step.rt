@@ -105,7 +105,7 @@ fn log<F: Flash>(flash: &mut F, file: &FileAt) -> Result<FileAt, FileError>
     })
 }
 
-// The records that so many overwrites and bytes need: one for the bytes, where the file has a log or is
+// The records that this many overwrites and bytes need: one for the bytes, where the file has a log or is
 // to get one.
 fn records_needed(at: &FileAt, overwrites: u16, bytes: u32) -> u16
     requires { overwrites ≤ 29 }

@@ -161,7 +161,7 @@ impl Window {
         Ok(())
     }
 
-    // Holds so many bytes of a file from byte `at` on.
+    // Holds this many bytes of a file from byte `at` on.
     fn fill<F: Flash>(
         &mut self,
         flash: &mut F,

@@ -7,13 +7,13 @@ use std::test::Fail;
 const MADE: &[u8] = b"CREATE RELATION a;CREATE ATTRIBUTE v DOMAIN INT IN a;INSERT (7) INTO a;\
     CREATE RELATION b;CREATE RELATION c;INSERT (8) INTO a;REMOVE RELATION b;REMOVE RELATION c;";
 
-// Whether an image that a cut collection left is put right, and its database is as it was.
+// Whether an image that a cut collection left is repaired, and its database is as it was.
 fn is_put_right(alloc: Global, image: &mut [u8], dump: &[u8]) -> bool {
     let repaired = call(alloc, Calls::Repair, b"", image);
     repaired.status == 0 && call(alloc, Calls::Dump, b"", image).is(0, dump)
 }
 
-// The first of so many writes behind which a cut leaves something else, and how many images were cut.
+// The first of this many writes after which a cut leaves something else, and how many images were cut.
 fn first_wrong(alloc: Global, made: &[u8], dump: &[u8], front: usize) -> (Option<u64>, u64) {
     for writes in 0..200u64 {
         let mut image = copied(alloc, made);

@@ -37,7 +37,7 @@ fn of_zeros(alloc: Global, bytes: usize) -> Result<Vec<u8>, AllocError> {
     vec![in alloc; 0u8; bytes]
 }
 
-/// An erased image of so many sectors.
+/// An erased image of this many sectors.
 pub fn erased(alloc: Global, sectors: usize) -> Vec<u8> {
     match of_zeros(alloc, sectors.saturating_mul(SECTOR)) {
         Ok(image) => image,
@@ -97,7 +97,7 @@ fn called<F: Flash + Drop>(
     })
 }
 
-/// A call on an image whose power goes after so many writes, of the next of which `front` bytes are done.
+/// A call on an image whose power goes after this many writes, of the next of which `front` bytes are done.
 pub fn call_cut(
     alloc: Global,
     calls: Calls,

@@ -31,7 +31,7 @@ lefts_of c lefts = take c.left_slots lefts
 abbrev pub rights_of : JoinCursor → List Row → List Row
 rights_of c rights = take c.right_slots rights
 
--- the pairs of the left row at which it stands from a right slot on, then those of the left rows behind it
+-- the pairs of the left row at which it stands from a right slot on, then those of the left rows after it
 abbrev pub pairs_left : JoinCursor → List Row → List Row → List (List Value × List Value)
 pairs_left c lefts rights =
     matching c.left_on c.right_on (take 1 (drop c.at (lefts_of c lefts))) (drop c.from (rights_of c rights))
@@ -151,7 +151,7 @@ join_cost_behind c lefts rights =
 
 -- ---- where a cursor begins
 
--- what it is made of: it rests before the first pair of so many left and right slots
+-- what it is made of: it rests before the first pair of this many left and right slots
 pub record IsBegunJoin (c : JoinCursor) (first second : Tuples) (infos : List IndexInfo) (on_first on_second lefts rights : ℕ) : Type 0 where
   pub left : c.left ≡ first
   pub right : c.right ≡ second
@@ -171,7 +171,7 @@ abbrev pub FindsPartner : Option Partnered → (List Value → Bool) → List Ro
 FindsPartner found test rights from count =
     MatchOption found (partners test rights from count ≡ []) (λ p. partners test rights from count ≡ p.slot ∷ partners test rights (p.slot + 1) count)
 
--- and the right side stands behind it
+-- and the right side stands after it
 abbrev pub StandsBehind : Option Partnered → (List Value → Bool) → State → Tables → List Row → (count : ℕ) → Type 0
 StandsBehind found test state tables rights count =
     IfSome found (λ p. Fits p.inner state tables rights × (passing test rights (ahead p.inner rights) ≡ partners test rights (p.slot + 1) count))
@@ -199,7 +199,7 @@ pub record MovesOn (old new : JoinCursor) : Type 0 where
   pub stands : new ≡ record old { at = new.at; from = new.from; inner = new.inner }
   pub later : old.at ≤ new.at
 
--- behind a pair it stands at a left row, and behind the last behind all of them
+-- after a pair it stands at a left row, and after the last after all of them
 pub record StopsAt (found : Bool) (old new : JoinCursor) : Type 0 where
   pub here : MatchBool found (new.at < new.left_slots) (new.left_slots ≤ new.at)
   pub at_end : found ≡ false → old.at ≤ old.left_slots → new.at ≡ new.left_slots

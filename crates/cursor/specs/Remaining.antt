@@ -34,7 +34,7 @@ passing test all slots = filter (λ slot. is_live_and test (get_or all slot no_r
 abbrev pub passed_until : (List Value → Bool) → List Row → List ℕ → List ℕ
 passed_until test all slots = passed (slice_get (passing test all slots) 0) slots
 
--- what is read for so many of the slots ahead
+-- what is read for this many of the slots ahead
 abbrev pub cost_of_slots : Candidates → List Row → ℕ → ℕ
 cost_of_slots c all k = 6 * k + reads_by c.search c.place all k
 
@@ -73,7 +73,7 @@ pub record BeginsBy (c : SelectCursor) (attributes : List Attribute) (condition 
   pub cost : begin_cost (length all) (plan (kinds infos) (ranges_of attributes condition)) + cost_ahead c.candidates all
       ≤ chosen_cost (kinds infos) (ranges_of attributes condition) all
 
--- what it is made of: it rests, over so many slots, by one of the indexes
+-- what it is made of: it rests, over this many slots, by one of the indexes
 pub record IsBegun (c : SelectCursor) (relation : Tuples) (condition : List Instruction) (count : ℕ) (infos : List IndexInfo) : Type 0 where
   pub tuples : c.tuples ≡ relation
   pub code : c.code ≡ condition

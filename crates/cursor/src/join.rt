@@ -162,7 +162,7 @@ impl JoinCursor {
     }
 
     /// Puts the next pair into `left` and `right`, and answers false exactly where there is none. Then
-    /// it stands behind all left slots, and answers false from now on.
+    /// it stands after all left slots, and answers false from now on.
     pub fn next<V: Files>(
         &mut self,
         files: &mut V,

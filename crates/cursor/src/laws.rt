@@ -10,7 +10,7 @@ ghost use Rattle.cursor.specs.declared.select.SelectCursor.{SelectCursor as AnyS
 ghost use Rattle.cursor.specs.Pairs.{pairs_left};
 ghost use Rattle.cursor.specs.Remaining.{remaining, slots_to_answer};
 
-/// What remains of a cursor's answer is the same whatever rows come behind the others.
+/// What remains of a cursor's answer is the same whatever rows come after the others.
 #[tactic(auto, using(crate::proofs::Waiting::remaining_kept, crate::proofs::Waiting::slots_kept))]
 pub fn rows_that_come_change_no_answer()
     ensures remaining { (c : AnySelect) (old new : List Row) → RowsGrow old new
@@ -19,7 +19,7 @@ pub fn rows_that_come_change_no_answer()
         → Waits c.candidates old → slots_to_answer c new ≡ slots_to_answer c old }
 {}
 
-/// The pairs that are left are the same whatever rows come behind the others on either side.
+/// The pairs that are left are the same whatever rows come after the others on either side.
 #[tactic(auto, using(crate::proofs::Waiting::pairs_kept))]
 pub fn rows_that_come_change_no_pair()
     ensures { (c : AnyJoin) (lefts lefts_now rights rights_now : List Row)

@@ -148,7 +148,7 @@ fn right_side<V: Files>(
     }
 }
 
-/// A right slot, and where the right side stands behind it.
+/// A right slot, and where the right side stands after it.
 #[derive(Drop)]
 pub(crate) struct Partnered {
     pub(crate) slot: SlotNo,

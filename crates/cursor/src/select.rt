@@ -123,7 +123,7 @@ impl SelectCursor {
     }
 
     /// Puts the next tuple into `into` and answers its slot, `None` exactly after the last. Then it
-    /// stands behind all its slots, and answers `None` from now on.
+    /// stands after all its slots, and answers `None` from now on.
     pub fn next<V: Files>(
         &mut self,
         files: &mut V,

@@ -8,21 +8,21 @@ use std::alloc::Global;
 // The bytes of as many sectors as are enough for each command of these tests: no repair lacks space there.
 const ENOUGH: usize = 262_144;
 
-/// How many cut images were put right, and the first that was not.
+/// How many cut images were repaired, and the first that was not.
 #[derive(Drop)]
 pub struct Tally {
     pub images: u64,
     pub wrong: Option<Wrong>,
 }
 
-/// A cut behind which something was wrong: the number of its write, how many bytes of it were done, and what was wrong.
+/// A cut after which something was wrong: the number of its write, how many bytes of it were done, and what was wrong.
 #[derive(Clone, Copy, Debug, PartialEq, Eq)]
 pub struct Wrong {
     pub cut: Cut,
     pub what: Trouble,
 }
 
-/// What is wrong behind a cut.
+/// What is wrong after a cut.
 #[derive(Clone, Copy, Debug, PartialEq, Eq)]
 pub enum Trouble {
     /// The run ended otherwise than a cut one.
@@ -70,7 +70,7 @@ fn is_between(text: &[u8], before: &[u8], after: &[u8]) -> bool {
         && text.len() <= front.saturating_add(end)
 }
 
-// Whether a database and so much that was written may stand where the power went behind so many writes.
+// Whether a database and so much that was written may stand where the power went after this many writes.
 fn may_be(story: &Story, cut: Cut, written: usize, database: &[u8]) -> bool {
     let marks = story.marks.as_slice();
     for (at, mark) in marks.iter().enumerate() {
@@ -86,7 +86,7 @@ fn may_be(story: &Story, cut: Cut, written: usize, database: &[u8]) -> bool {
     false
 }
 
-// Whether a database is that behind some commands, or behind the next one, or between where that removes rows.
+// Whether a database is that after some commands, or after the next one, or between where that removes rows.
 fn is_allowed(mark: &Mark, next: Option<&Mark>, database: &[u8]) -> bool {
     let before = mark.database.as_slice();
     if database == before {
@@ -135,7 +135,7 @@ fn foretold_of(alloc: Global, place: Place, image: &mut [u8]) -> Option<Ended> {
     }
 }
 
-// Checks an image and repairs it, on a larger flash where there is no space, and tells what is wrong behind it.
+// Checks an image and repairs it, on a larger flash where there is no space, and tells what is wrong after it.
 fn end_repair(alloc: Global, place: Place, image: &[u8]) -> Option<Trouble> {
     let mut now = copied(alloc, image);
     let foretold = foretold_of(alloc, place, now.as_mut_slice());
@@ -193,7 +193,7 @@ fn end_cut_repairs(
     None
 }
 
-// What is wrong behind a cut that left an image.
+// What is wrong after a cut that left an image.
 fn first_trouble(
     alloc: Global,
     place: Place,
@@ -249,7 +249,7 @@ fn cut_at(
     trouble.is_some()
 }
 
-/// Cuts a story at each of its writes, so many times each, and cuts one in some of the repairs at each of theirs.
+/// Cuts a story at each of its writes, this many times each, and cuts one in some of the repairs at each of theirs.
 pub fn cut_everywhere(alloc: Global, story: &Story, times: u32, one_in: u32, seed: u32) -> Tally {
     let mut tally = Tally {
         images: 0,

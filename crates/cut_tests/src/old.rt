@@ -16,7 +16,7 @@ fn put_file(image: &mut [u8], at: usize, pages: u8, kind: u8, name: &str) {
     put(image, at.saturating_add(10), name.as_bytes());
 }
 
-/// An image of so many sectors of version 1, with the relation n of one INT attribute v, which has three rows of the
+/// An image of this many sectors of version 1, with the relation n of one INT attribute v, which has three rows of the
 /// number 5.
 pub fn version_1(alloc: Global, sectors: usize) -> Vec<u8> {
     let mut image = erased(alloc, sectors);

@@ -20,7 +20,7 @@ impl Random {
         self.state >> 16
     }
 
-    /// Whether one of so many is met.
+    /// Whether one of this many is met.
     pub fn is_one_in(&mut self, many: u32) -> bool {
         many > 0 && self.next() % many == 0
     }

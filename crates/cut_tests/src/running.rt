@@ -41,7 +41,7 @@ fn of_zeros(alloc: Global, bytes: usize) -> Result<Vec<u8>, AllocError> {
     vec![in alloc; 0u8; bytes]
 }
 
-/// An erased image of so many sectors.
+/// An erased image of this many sectors.
 pub fn erased(alloc: Global, sectors: usize) -> Vec<u8> {
     match of_zeros(alloc, sectors.saturating_mul(SECTOR)) {
         Ok(image) => image,
@@ -57,7 +57,7 @@ pub fn copied(alloc: Global, bytes: &[u8]) -> Vec<u8> {
     }
 }
 
-/// The same bytes, and so many erased sectors behind them.
+/// The same bytes, and this many erased sectors after them.
 pub fn enlarged(alloc: Global, bytes: &[u8], sectors: usize) -> Vec<u8> {
     let mut image = copied(alloc, bytes);
     match image.extend_from_slice(erased(alloc, sectors).as_slice()) {

@@ -1,4 +1,4 @@
-//! Stories that are told, cut and put right.
+//! Stories that are run, cut and repaired.
 
 use crate::cutting::{Tally, Trouble, Wrong, cut_everywhere};
 use crate::old::version_1;
@@ -19,7 +19,7 @@ pub struct Case {
     pub asks: Asks,
     /// How often each write is cut.
     pub times: u32,
-    /// Of so many repairs one is cut at each of its writes.
+    /// Of this many repairs one is cut at each of its writes.
     pub one_in: u32,
 }
 
@@ -31,7 +31,7 @@ pub enum Asks {
     Generated(&'static str, usize),
 }
 
-/// What a test shows is so.
+/// Fails a test unless this holds.
 pub fn show(holds: bool, shows: &'static str) -> Result<(), Fail> {
     if holds { Ok(()) } else { Err(Fail::new(shows)) }
 }
@@ -71,7 +71,7 @@ fn told(alloc: Global, case: &Case) -> Result<Story, AllocError> {
     tell(alloc, image.as_slice(), asked(alloc, case.asks)?)
 }
 
-// Cuts a story everywhere. Where there is no memory for it, none is put right.
+// Cuts a story everywhere. Where there is no memory for it, none is repaired.
 fn cut(alloc: Global, case: &Case, seed: u32) -> Tally {
     match told(alloc, case) {
         Ok(story) => cut_everywhere(alloc, &story, case.times, case.one_in, seed),
@@ -82,7 +82,7 @@ fn cut(alloc: Global, case: &Case, seed: u32) -> Tally {
     }
 }
 
-/// Cuts each story at each write. All is put right, of so many images at least.
+/// Cuts each story at each write. All is repaired, of this many images at least.
 pub fn all_are_put_right(alloc: Global, cases: &[Case], least: u64) -> Result<(), Fail> {
     let mut images = 0u64;
     let mut seed = 0u32;
@@ -98,7 +98,7 @@ pub fn all_are_put_right(alloc: Global, cases: &[Case], least: u64) -> Result<()
     Ok(())
 }
 
-// Tells the case, how much of which write was done, and what is wrong behind it, in the digits of one number.
+// Tells the case, how much of which write was done, and what is wrong after it, in the digits of one number.
 fn none_is_wrong(case: u64, wrong: Option<Wrong>) -> Result<(), Fail> {
     match wrong {
         None => Ok(()),

@@ -10,7 +10,7 @@ pub enum Asked {
     Script(Vec<u8>),
     /// Frames, each with its end.
     Frames(Vec<u8>),
-    /// So many commands of a seed.
+    /// This many commands of a seed.
     Generated { seed: &'static str, count: usize },
 }
 
@@ -21,7 +21,7 @@ pub const COUNTS: &[&str] = &[
     "34", "35", "36", "37", "38", "39", "40",
 ];
 
-/// An image, what it is asked for, and what stands behind each front part of that.
+/// An image, what it is asked for, and what stands after each front part of that.
 #[derive(Drop)]
 pub struct Story {
     pub image: Vec<u8>,
@@ -29,7 +29,7 @@ pub struct Story {
     pub marks: Vec<Mark>,
 }
 
-/// What stands behind some commands in front.
+/// What stands after some commands in front.
 #[derive(Drop)]
 pub struct Mark {
     /// How many writes were done.
@@ -38,12 +38,12 @@ pub struct Mark {
     pub written: usize,
     /// The script of the database.
     pub database: Vec<u8>,
-    /// Whether the command behind removes rows.
+    /// Whether the command after removes rows.
     pub removes: bool,
 }
 
 impl Asked {
-    // Behind which bytes the commands end.
+    // After which bytes the commands end.
     fn ends(&self, alloc: Global) -> Result<Vec<usize>, AllocError> {
         match self {
             Asked::Script(text) => ends_at(alloc, text.as_slice(), b';'),
@@ -120,14 +120,14 @@ impl Story {
     }
 }
 
-// Whether what ends there is done within so many writes.
+// Whether what ends there is done within this many writes.
 fn is_done(alloc: Global, image: &[u8], asked: &Asked, end: usize, writes: u64) -> bool {
     let mut image = copied(alloc, image);
     let cut = Cut { writes, front: 0 };
     asked.run_to(alloc, end, image.as_mut_slice(), cut).status == 0
 }
 
-// How many writes what ends there takes, of which so many are done before.
+// How many writes what ends there takes, of which this many are done before.
 fn writes_to(alloc: Global, image: &[u8], asked: &Asked, end: usize, least: u64) -> u64 {
     let mut low = least;
     for step in [
@@ -146,7 +146,7 @@ fn writes_to(alloc: Global, image: &[u8], asked: &Asked, end: usize, least: u64)
     low
 }
 
-// What stands behind what ends there.
+// What stands after what ends there.
 fn mark_behind(alloc: Global, image: &[u8], asked: &Asked, end: usize, least: u64) -> Mark {
     let writes = writes_to(alloc, image, asked, end, least);
     let mut image = copied(alloc, image);

@@ -63,7 +63,7 @@ pub record LeavesFiles (old new : State) : Type 0 where
   pub draft : new.draft ≡ old.draft
   pub tells : new.tells ≡ old.tells
 
--- a file has so many bytes more, and no other has changed
+-- a file has this many bytes more, and no other has changed
 pub record Lengthens (old new : State) (id more : ℕ) : Type 0 where
   pub live : IsLive new.files id
   pub kind : (file_at new.files id).kind ≡ (file_at old.files id).kind

@@ -17,7 +17,7 @@ fn rows_of(low: u8, high: u8) -> [u8; 768] {
     rows
 }
 
-// A new file of rows, 256 at a time so many times.
+// A new file of rows, 256 at a time this many times.
 fn rows_in<V: Files>(files: &mut V, bytes: &[u8; 768], times: u16) -> Result<FileId, FileError>
     requires idle { (V.state files.old).draft ≡ None }
     ensures idle { OnOk result ((V.state files.new).draft ≡ None) }
@@ -56,7 +56,7 @@ fn has_numbers<V: Files>(
     Ok(true)
 }
 
-// The heads on the path of the key 7, and the chain behind its lowest node.
+// The heads on the path of the key 7, and the chain after its lowest node.
 const PATH_OF_7: [(u32, u16); 10] = [
     (0, 1),
     (2 * 4, 2),
@@ -117,7 +117,7 @@ fn a_key_below_zero_has_its_path(rt: HostRuntime) {
     assert!(rt; has_a_path_below_zero(&mut files) == Ok(true));
 }
 
-// Whether a tree of 32,768 equal keys has the right size, keeps its rules for so many slots and no
+// Whether a tree of 32,768 equal keys has the right size, keeps its rules for this many slots and no
 // fewer, and is searched through in order.
 fn chains_equal_keys<V: Files>(files: &mut V, keys: &[i32]) -> Result<bool, FileError>
     requires idle { (V.state files.old).draft ≡ None }

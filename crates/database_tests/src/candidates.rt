@@ -15,8 +15,8 @@ use afl_sim::MemFlash;
 use index_set::{Candidates, HashTables};
 use std::test::Fail;
 
-// How many slots candidates answer. They are those that are known, in order. All is changed behind
-// each, and behind the last.
+// How many slots candidates answer. They are those that are known, in order. All is changed after
+// each, and after the last.
 #[tactic(auto, using(crate::proofs::Standing::are_readable, crate::proofs::Standing::safe_on))]
 fn count_answers<V: Files>(
     files: &mut V,
@@ -45,7 +45,7 @@ fn count_answers<V: Files>(
         if found != known.next(asked, from, slots) {
             return Err(Fail::new("another slot is answered"));
         }
-        // Behind the last slot none is answered once more.
+        // After the last slot none is answered once more.
         if ended {
             return Ok(answers);
         }
@@ -71,7 +71,7 @@ fn count_answers<V: Files>(
 #[derive(Drop)]
 struct Seen {
     answers: [u16; 10],
-    // The bytes of the rows and of the tree, before the first answer and behind the last.
+    // The bytes of the rows and of the tree, before the first answer and after the last.
     before: (u32, u32),
     behind: (u32, u32),
 }
@@ -149,7 +149,7 @@ fn slots_are_answered_while_all_is_changed_between_them(rt: HostRuntime) -> Resu
     // None; all rows that there are; and of each k four.
     assert_eq!(rt; seen.answers, [0, 0, 26, 53, 32, 32, 35, 48, 52, 63]);
     assert!(rt; has_grown(&seen, &known));
-    // A row was added and a sector erased behind each answer.
+    // A row was added and a sector erased after each answer.
     assert!(rt; has_erased(&counts, &known));
     Ok(())
 }

@@ -94,7 +94,7 @@ fn broken<V: Files>(files: &mut V) -> Result<Option<BadCatalog>, FileError>
     }
 }
 
-// Whether a catalog has this relation in a slot, with so many attributes.
+// Whether a catalog has this relation in a slot, with this many attributes.
 fn has_relation(catalog: &Catalog, slot: usize, name: &[u8], attributes: usize) -> bool {
     if slot >= 8 {
         return false;
@@ -169,7 +169,7 @@ fn a_catalog_of_version_1_opens(rt: HostRuntime) {
     assert!(rt; opens_version_1(&mut files) == Ok(true));
 }
 
-// Whether bytes are those of version 1 but for slot 1 and for the mark of version 2 behind them.
+// Whether bytes are those of version 1 but for slot 1 and for the mark of version 2 after them.
 fn is_changed(whole: &[u8; 1480]) -> bool {
     let bytes = version_1();
     if whole[0..176] != bytes[0..176] || &whole[176..178] != b"m\0".as_slice() {

@@ -34,7 +34,7 @@ fn seeded() -> [i32; 10_000] {
     keys
 }
 
-// Whether a slot is the last of so many.
+// Whether a slot is the last of this many.
 fn is_last_of(slot: u16, every: u16) -> bool {
     every != 0 && slot % every == every - 1
 }
@@ -59,7 +59,7 @@ fn agrees<V: Files>(
 }
 
 // Inserts the first seeded keys. It answers whether the searches between, for the last key and
-// another after each so many inserts, agree with the list.
+// another after each this many inserts, agree with the list.
 fn grows<V: Files>(
     files: &mut V,
     index: FileId,
@@ -84,7 +84,7 @@ fn grows<V: Files>(
     Ok(true)
 }
 
-// Whether a tree that so many inserts grew agrees with a list of their keys, in searches between and,
+// Whether a tree that this many inserts grew agrees with a list of their keys, in searches between and,
 // at the end, for the six keys and one that is absent.
 fn grows_to<V: Files>(files: &mut V, slots: u16, every: u16) -> Result<bool, FileError>
     requires idle { (V.state files.old).draft ≡ None }

@@ -31,7 +31,7 @@ fn rest_at_some(cursor: &mut JoinCursor, rests: bool, turn: u16)
 }
 
 // How many pairs a cursor answers that joins the relation with itself. They are those that are known,
-// in order, and all is changed behind each.
+// in order, and all is changed after each.
 #[tactic(auto, using(crate::proofs::Standing::are_readable))]
 fn count_pairs<V: Files>(
     files: &mut V,

@@ -78,7 +78,7 @@ impl Relation {
     }
 }
 
-// The slot behind the last row.
+// The slot after the last row.
 fn next_slot<V: Files>(files: &V, tuples: &Tuples) -> Result<SlotNo, Fail>
     requires { HoldsRows (V.state files.now) tuples.now }
     ensures next { IfOk result (λ slot. slot ≡ slots (V.state files.now).files tuples.now) }

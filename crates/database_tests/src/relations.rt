@@ -216,7 +216,7 @@ fn three_rows<V: Files>(files: &mut V) -> Result<Tuples, FileError>
 }
 
 // Whether three rows keep their slots when the first and the last are removed, and the second alone
-// is left behind `pack`.
+// is left after `pack`.
 fn removes_two<V: Files>(files: &mut V) -> Result<bool, FileError>
     requires idle { (V.state files.old).draft ≡ None }
 {
@@ -257,7 +257,7 @@ fn overwrite_end<V: Files>(files: &mut V, id: FileId, end: [u8; 2]) -> Result<()
     Ok(())
 }
 
-// Whether bytes behind a text's end, and a mark of no kind, are refused.
+// Whether bytes after a text's end, and a mark of no kind, are refused.
 fn refuses_no_rows<V: Files>(files: &mut V) -> Result<bool, FileError>
     requires idle { (V.state files.old).draft ≡ None }
 {

@@ -76,7 +76,7 @@ fn replies_follow_one_another(rt: HostRuntime) {
     );
 }
 
-// Writes a byte, and a line behind it.
+// Writes a byte, and a line after it.
 fn write_byte_and_line<K: Sink>(out: &mut K) -> Result<(), Failed> {
     write_all(out, b"x")?;
     write_numbers(out, &[Some(12), Some(3)])

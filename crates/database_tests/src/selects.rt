@@ -24,7 +24,7 @@ fn code_for(relation: &Relation, asked: Asked) -> Result<Code, Fail> {
     }
 }
 
-// How many rows a cursor answers. They are those that are known, in order, and all is changed behind
+// How many rows a cursor answers. They are those that are known, in order, and all is changed after
 // each.
 #[tactic(auto, using(crate::proofs::Standing::are_readable, crate::proofs::Standing::on_numbers, crate::proofs::Standing::may_read_on))]
 fn count_rows<V: Files>(

@@ -4,7 +4,7 @@
 
 use index_memhash::{HashPlace, HashTable};
 
-// The first slot of a key at or behind a place, and the place behind it.
+// The first slot of a key at or after a place, and the place after it.
 fn found(table: &HashTable, place: HashPlace, key: i32) -> Option<(u16, HashPlace)> {
     let (slot, behind) = table.next(place, &key)?;
     Some((slot.number(), behind))
@@ -27,7 +27,7 @@ fn has_slots(table: &HashTable, keys: &[i32; 2048], key: i32) -> bool {
     found(table, place, key).is_none()
 }
 
-// The first slot of a key at or behind an entry.
+// The first slot of a key at or after an entry.
 fn slot_from(table: &HashTable, entry: u16, key: i32) -> Option<u16> {
     let (slot, _) = found(table, HashPlace { entry }, key)?;
     Some(slot)

@@ -24,7 +24,7 @@ fn column(rows: FileId) -> KeyColumn
     }
 }
 
-// Whether a file has so many rows, at most 32,768.
+// Whether a file has this many rows, at most 32,768.
 fn has_rows<V: Files>(files: &V, rows: FileId, slots: u16) -> bool
     ensures live { IsTrue result → IsLive (V.state files.now).files rows }
     ensures slots { IsTrue result → slots ≤ 32768 }

@@ -82,7 +82,7 @@ opened db (Join left right on list) =
 abbrev pub next_passed : Ahead → List ℕ
 next_passed ahead = passed (slice_get ahead.stops 0) ahead.slots
 
--- the slots behind them; of a join the left slot of the pair stays ahead, and none does where no pair came
+-- the slots after them; of a join the left slot of the pair stays ahead, and none does where no pair came
 abbrev pub slots_behind : Source → List ℕ → List ℕ → List ℕ
 slots_behind (OfSelect name walk) passed slots = drop (length passed) slots
 slots_behind (OfJoin left right on indexes) passed slots = drop (length passed - 1) slots

@@ -23,7 +23,7 @@ use Rattle.db_model.specs.Ranges.{everything}
 use Rattle.db_model.specs.Row.{Row, no_row}
 use Rattle.db_model.specs.Step.{keys}
 
--- the number of binary digits of n, 0 for 0, of at most so many
+-- the number of binary digits of n, 0 for 0, of at most this many
 abbrev pub halvings : ℕ → ℕ → ℕ
 halvings zero n = 0
 halvings (suc turns) zero = 0

@@ -30,7 +30,7 @@ same_path a b = node a 4 == node b 4
 abbrev pub onward : ℕ → ℕ → List ℤ → List ℤ
 onward level d keys = filter (λ key. digit key level == d) (drop 32 keys)
 
--- the buckets below a node that these keys reach, itself among them, so many levels above the lowest: a lowest node
+-- the buckets below a node that these keys reach, itself among them, this many levels above the lowest: a lowest node
 -- has a chain of buckets of 32
 abbrev pub buckets_at : ℕ → ℕ → List ℤ → ℕ
 buckets_at zero level keys = (length keys + 31) / 32

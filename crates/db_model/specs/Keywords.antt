@@ -46,7 +46,7 @@ keyword_text KMEDIAN = codes "MEDIAN"
 unfoldable pub keywords : List Keyword
 keywords = KINSERT ∷ KINTO ∷ KSELECT ∷ KFROM ∷ KWHERE ∷ KCREATE ∷ KRELATION ∷ KATTRIBUTE ∷ KINDEX ∷ KDOMAIN ∷ KINT ∷ KLONG ∷ KSTRING ∷ KIN ∷ KTYPE ∷ KINLINE ∷ KMAXHEAP ∷ KMEMHASH ∷ KJOIN ∷ KON ∷ KPROJECT ∷ KREMOVE ∷ KPACK ∷ KOPEN ∷ KFETCH ∷ KCLOSE ∷ KAND ∷ KOR ∷ KNOT ∷ KCOUNT ∷ KSUM ∷ KMIN ∷ KMAX ∷ KMEAN ∷ KMEDIAN ∷ []
 
--- those of so many letters
+-- those of this many letters
 abbrev pub keywords_of_length : ℕ → List Keyword
 keywords_of_length n = filter (λ k. length (keyword_text k) == n) keywords
 

@@ -5,7 +5,7 @@ use Rattle.std.specs.Char.{is_ascii_alphabetic, is_ascii_alphanumeric}
 use Rattle.std.specs.Int.{is_in_range}
 use Rattle.db_model.specs.Keywords.{keyword_of}
 
--- a byte of a word behind its first: a letter, a digit or `_`
+-- a byte of a word after its first: a letter, a digit or `_`
 abbrev pub is_word_byte : ℕ → Bool
 is_word_byte b = is_ascii_alphanumeric b || b == 95
 

@@ -8,7 +8,7 @@ entries_after quoted piece [] = unended (past_white piece)
 entries_after quoted piece (b ∷ bs) =
     if ends_piece quoted b then ended (past_white piece) ++ entries_after false [] bs else entries_after (quoted_after quoted b) (piece ++ b ∷ []) bs
 
--- after some bytes, behind a piece so far that stands in quotes or not: whether it stands in quotes then
+-- after some bytes, after a piece so far that stands in quotes or not: whether it stands in quotes then
 abbrev pub quoted_behind : Bool → List ℕ → Bool
 quoted_behind quoted [] = quoted
 quoted_behind quoted (b ∷ bs) = if ends_piece quoted b then quoted_behind false bs else quoted_behind (quoted_after quoted b) bs

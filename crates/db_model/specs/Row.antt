@@ -51,7 +51,7 @@ width Long = 4
 width Time = 8
 width (Str n) = n
 
--- a number in two's complement, the lowest byte first; a text, and zeros behind it
+-- a number in two's complement, the lowest byte first; a text, and zeros after it
 abbrev pub field_bytes : Domain → Value → List ℕ
 field_bytes Int (Number z) = little_bytes 2 (cast_unsigned w16 z)
 field_bytes Long (Number z) = little_bytes 4 (cast_unsigned w32 z)
@@ -64,7 +64,7 @@ abbrev pub up_to_zero : List ℕ → List ℕ
 up_to_zero [] = []
 up_to_zero (b ∷ bytes) = if b == 0 then [] else b ∷ up_to_zero bytes
 
--- whether a field is a text with zeros behind it
+-- whether a field is a text with zeros after it
 abbrev pub is_text_field : List ℕ → Bool
 is_text_field field = is_text (up_to_zero field) && list_all (λ b. b == 0) (drop (length (up_to_zero field)) field)
 

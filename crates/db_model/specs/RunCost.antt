@@ -15,7 +15,7 @@ use Rattle.db_model.specs.Script.{Bytes, Entry, Long, Unfinished, after}
 abbrev pub slots_opened : Database → ℕ → ℕ
 slots_opened db k = option_map_or (λ r. length r.rows * (1 + length (indexes_of db k))) (get_or db.relations k None) 0
 
--- what a run over so many pages may read before its first entry
+-- what a run over this many pages may read before its first entry
 abbrev pub opening_cost : Database → ℕ → ℕ
 opening_cost db pages = 1024 * pages + 16 * sum (map (slots_opened db) (range_with_len 0 8))
 

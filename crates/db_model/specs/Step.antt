@@ -36,7 +36,7 @@ pub data Reply : Type 0 where
   Rows : List (List Value) → Reply
   -- one row of aggregates
   Numbers : List (Option ℤ) → Reply
-  -- so many rows were removed
+  -- this many rows were removed
   Removed : ℕ → Reply
   Refused : Refusal → Reply
 

@@ -27,13 +27,13 @@ number_token digits = if nat_le (length digits) 18 then Some (Number (pos (digit
 abbrev pub of_length : ℕ → Option Token → Option (Token × ℕ)
 of_length n token = option_map (λ t. (t, n)) token
 
--- behind the opening quote: a text, and the closing quote
+-- after the opening quote: a text, and the closing quote
 abbrev pub quoted_at : List ℕ → Option (Token × ℕ)
 quoted_at bytes =
     let n = prefix_len is_text_byte bytes in
     if is_text (take n bytes) && (get_or bytes n 0 == 39) then Some (Quoted (take n bytes), n + 2) else None
 
--- a sign by its first byte and the byte behind it: `<=`, `<>` and `>=` are taken whole
+-- a sign by its first byte and the byte after it: `<=`, `<>` and `>=` are taken whole
 abbrev pub sign_of : ℕ → ℕ → Option (Sign × ℕ)
 sign_of first next =
     if first == 40 then Some (LeftBracket, 1) else
@@ -57,7 +57,7 @@ word_at bytes = of_length (prefix_len is_word_byte bytes) (word_token (take_whil
 abbrev pub number_at : List ℕ → Option (Token × ℕ)
 number_at bytes = of_length (prefix_len is_ascii_digit bytes) (number_token (take_while is_ascii_digit bytes))
 
--- a sign by its first byte and those behind it
+-- a sign by its first byte and those after it
 abbrev pub sign_at : ℕ → List ℕ → Option (Token × ℕ)
 sign_at first behind = option_map (λ sign. (Signed sign.0, sign.1)) (sign_of first (get_or behind 0 0))
 
@@ -83,7 +83,7 @@ token_then token at rest = record { items = token ∷ rest.items; ends = at ∷ 
 abbrev pub no_tokens : Bool → Tokens
 no_tokens whole = record { items = []; ends = []; whole = whole }
 
--- the tokens from a place on, where so many bytes are still those of the token before
+-- the tokens from a place on, where this many bytes are still those of the token before
 abbrev pub tokens_from : ℕ → ℕ → List ℕ → Tokens
 tokens_from at skip [] = no_tokens true
 tokens_from at (suc skip) (b ∷ bs) = tokens_from (at + 1) skip bs

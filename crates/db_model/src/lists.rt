@@ -71,7 +71,7 @@ impl<T, const N: usize> Few<T, N> {
 }
 
 impl<T: Default + Drop, const N: usize> Few<T, N> {
-    /// Puts `item` behind the last.
+    /// Puts `item` after the last.
     pub fn push(&mut self, item: T)
         requires { length self.old < N }
         ensures { self.new ≡ self.old ++ item ∷ [] }

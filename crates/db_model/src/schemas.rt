@@ -14,7 +14,7 @@ pub enum Domain {
     Long,
     /// 0 to 140,737,488,355,327, in 8 bytes.
     Time,
-    /// Texts of at most so many bytes, 1 to 32.
+    /// Texts of at most this many bytes, 1 to 32.
     Str(u8),
 }
 

@@ -189,7 +189,7 @@ impl Keyword {
     }
 }
 
-// The keywords of so many letters: a word is compared with no others.
+// The keywords of this many letters: a word is compared with no others.
 #[tactic(auto, unfolding(crate::specs::Keywords::keywords), using(crate::proofs::Lengths::none_of_length))]
 fn of_length(len: usize) -> &'static [Keyword]
     ensures { result.now ≡ keywords_of_length len }

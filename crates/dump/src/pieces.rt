@@ -11,7 +11,7 @@ use afl_base::{Failed, Sink};
 use itoa::Buffer;
 use reply_text::write_all;
 
-/// Appends three pieces, one behind the other. `Failed` leaves a proper prefix of them there.
+/// Appends three pieces, one after the other. `Failed` leaves a proper prefix of them there.
 pub fn write_three<K: Sink>(
     out: &mut K,
     first: &[u8],

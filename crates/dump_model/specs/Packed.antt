@@ -11,11 +11,11 @@ kept_rows rows = filter (λ row. row.live) rows
 abbrev pub packed_relation : Relation → Relation
 packed_relation r = record r { rows = kept_rows r.rows }
 
--- these in the first slots of n, and none behind them
+-- these in the first slots of n, and none after them
 abbrev pub slots_for : {A : Type 0} → ℕ → List A → List (Option A)
 slots_for n xs = map (λ x. Some x) xs ++ replicate (n - length xs) None
 
--- the slot that a used slot gets: so many are used before it
+-- the slot that a used slot gets: this many are used before it
 abbrev pub new_slot : {A : Type 0} → List (Option A) → ℕ → ℕ
 new_slot slots k = length (used_things (take k slots))
 

@@ -32,7 +32,7 @@ pub fn new_file<V: Files>(files: &mut V, name: &[u8], kind: Kind) -> Result<File
     }
 }
 
-// Whether a file of this kind and size may have so many bytes more.
+// Whether a file of this kind and size may have this many bytes more.
 fn holds_more(kind: Kind, size: u32, bytes: u32) -> bool
     ensures few { IsTrue result → bytes ≤ 4096 }
     ensures most { IsTrue result → size + bytes ≤ 4194304 }

@@ -24,7 +24,7 @@ fn first_other_of_kept(
     }
 }
 
-// The same of a flash of so many bytes in a file.
+// The same of a flash of this many bytes in a file.
 fn first_other_of_kept_file(
     file: Option<File>,
     length: u64,

@@ -48,7 +48,7 @@ pub fn first_other<F: Flash>(flash: &mut F, calls: &[(Call, Answer)]) -> Option<
     None
 }
 
-/// The same of a flash of so many bytes in a file.
+/// The same of a flash of this many bytes in a file.
 pub fn first_other_in(
     file: Option<File>,
     length: u64,
@@ -60,7 +60,7 @@ pub fn first_other_in(
     }
 }
 
-/// A flash of so many bytes in a file.
+/// A flash of this many bytes in a file.
 pub fn flash_in(file: Option<File>, length: u64) -> Option<FileFlash<File>> {
     FileFlash::new(file?, length)
 }

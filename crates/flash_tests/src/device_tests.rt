@@ -143,7 +143,7 @@ fn answer_in(file: Option<File>, bytes: &[u8]) -> Option<Count> {
     Some(write(&mut StdSink::new(file?), bytes))
 }
 
-// The same of a file for reading alone and then of one for writing, and the bytes behind both.
+// The same of a file for reading alone and then of one for writing, and the bytes after both.
 fn refused_and_taken<R: Files<File = File> + AllocGlobal>(
     rt: &R,
     path: &str,

@@ -5,7 +5,7 @@ use afl_base::SECTOR_SIZE;
 use std::fs;
 use std::fs::{File, Files, OpenOptions};
 
-/// A new file of so many bytes, which are all zero.
+/// A new file of this many bytes, which are all zero.
 pub fn zeros<R: Files<File = File>>(rt: &R, path: &str) -> Option<File> {
     let _ = fs::remove_file(rt, path);
     let file = File::create_new(rt, path).ok()?;

@@ -20,7 +20,7 @@ pub enum Call<'a> {
     Record(u16),
     /// Adds a fifth record, of the region 5.
     PutFifth(&'a [u8; 128]),
-    /// Overwrites bytes of `CAT`, which has room for 1,504, by records behind the fourth.
+    /// Overwrites bytes of `CAT`, which has room for 1,504, by records after the fourth.
     Overwrite(u16, &'a [u8; 4]),
     /// Appends bytes to `CAT`.
     AppendToCat(&'a [u8; 32]),

@@ -154,7 +154,7 @@ fn each_rule_is_the_first_that_is_broken(rt: HostRuntime) {
     }
 }
 
-// An image of so many files of one page.
+// An image of this many files of one page.
 fn files_of_a_page(files: u8) -> [u8; SIZE] {
     let mut image = erased();
     for i in 0..files.min(64) {

@@ -25,7 +25,7 @@ blanked image (Some place) = zeros_at image place 128
 abbrev pub overlaid : List ℕ → Overlay → List ℕ
 overlaid image o = blanked (emptied (with_mark (with_mark image o.first) o.second) o.sector) o.blank
 
--- the sector and the bytes of an overlay lie inside an image of so many bytes
+-- the sector and the bytes of an overlay lie inside an image of this many bytes
 pub record FitsImage (size : ℕ) (o : Overlay) : Type 0 where
   pub sector : (s : SectorId) → o.sector ≡ Some s → 4096 * s.0 + 4096 ≤ size
   pub blank : (place : ℕ) → o.blank ≡ Some place → place + 128 ≤ size

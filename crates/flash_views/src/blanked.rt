@@ -6,7 +6,7 @@ use std::marker::Model;
 /// they are there. A program of any of the 128 bytes fails and does nothing; an erase is done.
 ///
 /// It borrows what the flash inside borrows, and its place counts among that: so it is the same place
-/// behind each call.
+/// after each call.
 #[derive(Drop)]
 pub struct Blanked<F: Flash> {
     inner: F,

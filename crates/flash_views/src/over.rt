@@ -68,7 +68,7 @@ fn put_bits(byte: usize, bits: u8, place: usize, into: &mut [u8])
     }
 }
 
-// So many bytes that are zero.
+// This many bytes that are zero.
 pub(crate) fn put_zeros(from: usize, count: usize, place: usize, into: &mut [u8])
     requires fits { place + length into.old ≤ 16777216 }
     ensures over { (image : List ℕ) → from + count ≤ length image

@@ -14,7 +14,7 @@ abbrev pub is_above : Range → ℤ → Bool
 is_above Empty key = true
 is_above (Between lo hi) key = int_lt hi key
 
--- the keys of the slots up to one are below the range, from there up to another in it, and behind that above it
+-- the keys of the slots up to one are below the range, from there up to another in it, and after that above it
 pub record IsSpan (within : Range) (key : ℕ → ℤ) (slots from to : ℕ) : Type 0 where
   pub order : from ≤ to
   pub end : to ≤ slots
@@ -34,7 +34,7 @@ passes_end true (Between lo hi) key = int_le key hi
 abbrev pub KeysRise : (ℕ → ℤ) → ℕ → Type 0
 KeysRise key slots = (i j : ℕ) → i ≤ j → j < slots → int_le (key i) (key j) ≡ true
 
--- a test is passed in the first slots, and in none behind them
+-- a test is passed in the first slots, and in none after them
 pub record IsPassedFront (test : ℕ → Bool) (slots front : ℕ) : Type 0 where
   pub within : front ≤ slots
   pub passed : (slot : ℕ) → slot < front → test slot ≡ true

@@ -11,13 +11,13 @@ use Rattle.index_tree.specs.Places.{SlotsRise}
 use Rattle.index_tree.specs.TreeFile.{IsTree, bucket_place, number_of, place_of}
 use Rattle.index_maxheap.specs.declared.groups.Nodes.{Nodes}
 
--- behind a bucket's pairs are zeros
+-- after a bucket's pairs are zeros
 abbrev pub IsBlank : List ℕ → List Pair → Type 0
 IsBlank bytes ps = (key : ℤ) (hop : ℕ) → number_of bytes key hop ≢ 0 → (x : ℕ)
     → 6 * length (reaching (goes key) hop ps) ≤ x → x < 192
     → get_or bytes (place_of (number_of bytes key hop) + x) 0 ≡ 0
 
--- the loads, and the number of buckets, are those of the tree of so many keys
+-- the loads, and the number of buckets, are those of the tree of this many keys
 abbrev pub AreLoads : List ℕ → (slots opened : ℕ) → Type 0
 AreLoads loads slots opened = (ps : List Pair) × (length ps ≡ slots) × Counts loads ps
     × (opened ≡ buckets (pair_keys ps))
@@ -28,7 +28,7 @@ AreLast loads places tree = (key : ℤ) (level : ℕ) → level ≤ 4
     → 0 < get_or loads (node key level) 0 →
     get_or places (node key level) 0 ≡ place_of (number_of tree key (level + (get_or loads (node key level) 0 - 1) / 32))
 
--- the draft has the tree of these pairs in front, and zeros behind it
+-- the draft has the tree of these pairs in front, and zeros after it
 pub record Builds (loads places : List ℕ) (opened : ℕ) (draft : List ℕ) (ps : List Pair) : Type 0 where
   pub tree : List ℕ
   pub is : IsTree tree ps
@@ -50,11 +50,11 @@ HasOtherDraft old new = (bytes : List ℕ)
 abbrev pub with_pair : List Pair → ℤ → ℕ → List Pair
 with_pair ps key slot = ps ++ record { key = key; slot = slot } ∷ []
 
--- so many zeros from a place on
+-- this many zeros from a place on
 abbrev pub HasZeros : List ℕ → ℕ → ℕ → Type 0
 HasZeros bytes at n = slice_range bytes at (at + n) ≡ replicate n 0
 
--- the last byte of a bucket stands behind so many buckets of the draft, and its number at a place before it
+-- the last byte of a bucket stands after this many buckets of the draft, and its number at a place before it
 abbrev pub DraftsBucket : State → State → (at opened : ℕ) → Type 0
 DraftsBucket old new at opened = (two : List ℕ) × (length two ≡ 2) × (u16_at two 0 ≡ opened + 1)
     × Drafts old new (draft_in old).name (length (draft_in old).bytes) (put_at (put_at (draft_in old).bytes (bucket_place opened + 194) (1 ∷ [])) at two)
@@ -76,7 +76,7 @@ abbrev pub FitDraft : Nodes → State → Type 0
 FitDraft nodes state = (most slot : ℕ) × IsSafeBuild nodes most slot
     × (length (draft_in state).bytes ≡ bucket_place most)
 
--- the next bucket of a node lies behind all others
+-- the next bucket of a node lies after all others
 abbrev pub with_bucket : Nodes → ℕ → Nodes
 with_bucket nodes node =
     record nodes { places = set nodes.places node (bucket_place nodes.opened); opened = nodes.opened + 1 }
@@ -100,7 +100,7 @@ pub record TakesIn (old new : Nodes) (node : ℕ) (q : Pair) : Type 0 where
   pub places : new.places ≡ old.places
   pub opened : new.opened ≡ old.opened
 
--- a byte of the draft belongs to one of so many pairs that wait, of a node from one on
+-- a byte of the draft belongs to one of this many pairs that wait, of a node from one on
 pub record IsAwaited (from : ℕ) (at count : ℕ → ℕ) (x : ℕ) : Type 0 where
   pub node : ℕ
   pub later : from ≤ node

@@ -13,7 +13,7 @@ use Rattle.index_maxheap.specs.declared.rooms.End.{End}
 use Rattle.index_maxheap.specs.declared.rooms.End.TheVariants as end
 use Rattle.index_maxheap.specs.declared.rooms.Room.{Room}
 
--- behind so many pairs of the bucket at a place, or in a first pair of a new bucket, whose number goes to a spot
+-- after this many pairs of the bucket at a place, or in a first pair of a new bucket, whose number goes to a spot
 abbrev pub end_by : ℕ → ℕ → ℕ → End
 end_by spot place zero = end.Bucket spot
 end_by spot place (suc pairs) = end.Pair (place + 6 * suc pairs)
@@ -35,13 +35,13 @@ room_of bytes key = room_for (end_at bytes key (path_end bytes key))
 
 -- ---- what holds also where bytes are not told
 
--- what is written lies in a file of so many bytes, before its last byte
+-- what is written lies in a file of this many bytes, before its last byte
 abbrev pub IsWithin : End → ℕ → Type 0
 IsWithin (end.Pair at) size = at + 7 ≤ size
 IsWithin (end.Bucket at) size = (at + 3 ≤ size) × (683 ≤ size) × (size ≤ 268000)
 IsWithin end.Nowhere size = ⊤
 
--- an insert may be made with this room in a file of so many bytes
+-- an insert may be made with this room in a file of this many bytes
 pub record IsRoomIn (room : Room) (size : ℕ) : Type 0 where
   pub whole : room ≡ room_for room.end
   pub within : IsWithin room.end size

@@ -30,7 +30,7 @@ abbrev pub IsBehind : List ℕ → ℤ → ℕ → Place → Type 0
 IsBehind bytes key from place = (key_at bytes (place_of place.bucket) (place.pair - 1) ≡ key)
     × (slot_at bytes (place_of place.bucket) (place.pair - 1) ≡ from)
 
--- a place that may stand behind a pair of a file of so many bytes, of a search from a slot on
+-- a place that may stand after a pair of a file of this many bytes, of a search from a slot on
 pub record MayStand (place : Place) (from size : ℕ) : Type 0 where
   pub begun : 0 < from
   pub some : place.bucket ≢ 0

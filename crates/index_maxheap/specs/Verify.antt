@@ -27,7 +27,7 @@ AreSeen bytes ps = (key : ℤ) (hop : ℕ) → 0 < length (reaching (goes key) h
 abbrev pub hop_of : ℕ → ℕ → ℕ
 hop_of level load = level + (load - 1) / 32
 
--- a bucket's place, the number behind it, and how many pairs it has in front of its zeros
+-- a bucket's place, the number after it, and how many pairs it has in front of its zeros
 pub record IsTail (bytes : List ℕ) (number place next filled level : ℕ) : Type 0 where
   pub at : place ≡ place_of number
   pub onward : next ≡ next_at bytes (place_of number)
@@ -50,7 +50,7 @@ AreTails bytes loads places nexts fills = (key : ℤ) (level : ℕ) → level �
     → 0 < get_or loads (node key level) 0 →
     IsTail bytes (number_of bytes key (hop_of level (get_or loads (node key level) 0))) (get_or places (node key level) 0) (get_or nexts (node key level) 0) (get_or fills (node key level) 0) level
 
--- a node has no number, or a last bucket with no pair behind those that were seen
+-- a node has no number, or a last bucket with no pair after those that were seen
 abbrev pub IsDone : List ℕ → ℕ → ℕ → ℕ → ℕ → Type 0
 IsDone bytes node load next filled = ((load ≡ 0) × (bucket_number bytes node ≡ 0))
     ⊎ ((0 < load) × (filled ≡ (load - 1) % 32 + 1) × (next ≡ 0))
@@ -66,7 +66,7 @@ pub record Verifies (bytes loads places nexts fills : List ℕ) (ps : List Pair)
 abbrev pub AreHeads : List ℕ → List ℕ → Type 0
 AreHeads heads bytes = (node : ℕ) → node ≤ 340 → u16_at heads (2 * node) ≡ bucket_number bytes node
 
--- the next slot's pair is in its place, or the file is no tree of so many slots
+-- the next slot's pair is in its place, or the file is no tree of this many slots
 abbrev pub Goes : Option ℕ → List ℕ → (ℕ → ℤ) → ℕ → (ℕ → Type 0) → Type 0
 Goes None bytes f slot P = (slots : ℕ) → slot < slots → IsTree bytes (pairs_of f slots) → ⊥
 Goes (Some opens) bytes f slot P = P opens

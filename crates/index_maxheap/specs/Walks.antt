@@ -21,7 +21,7 @@ LeadsOn look.None bytes number = ⊤
 LeadsOn (look.Room pair) bytes number = ⊤
 LeadsOn (look.Full next) bytes number = next ≡ next_at bytes (place_of number)
 
--- a bucket lies in a file of so many bytes
+-- a bucket lies in a file of this many bytes
 abbrev pub IsSafeLook : Look → (number size : ℕ) → Type 0
 IsSafeLook look.None number size = ⊤
 IsSafeLook (look.Room pair) number size = (number ≢ 0) × (pair < 32) × (bucket_place number ≤ size)
@@ -47,7 +47,7 @@ pub record IsFullLowest (bytes : List ℕ) (ps : List Pair) (key : ℤ) (number 
   pub full : 32 ≤ length (reaching (goes key) 4 ps)
   pub onward : next ≡ next_at bytes (place_of number)
 
--- the end of the path of a key: behind the pairs of a bucket, or a spot without a number
+-- the end of the path of a key: after the pairs of a bucket, or a spot without a number
 abbrev pub Finds : End → List ℕ → List Pair → ℤ → Type 0
 Finds (end.Pair at) bytes ps key = (hop : ℕ) × IsPathEnd ps key hop × (number_of bytes key hop ≢ 0)
     × (at ≡ place_of (number_of bytes key hop) + 6 * length (reaching (goes key) hop ps))

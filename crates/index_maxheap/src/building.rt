@@ -21,7 +21,7 @@ use crate::path::node;
 use crate::tree::{BUCKET_SIZE, HEAD_SIZE, NEXT_AT, bucket_place};
 use afl_base::{Failed, Files, KeyColumn, SlotNo, put_u16};
 
-// Writes the last byte of a bucket behind `opened` buckets, and its number to a place before it.
+// Writes the last byte of a bucket after `opened` buckets, and its number to a place before it.
 fn write_bucket<V: Files>(files: &mut V, at: u32, opened: u16) -> Result<(), Failed>
     requires begun { IsSome (V.state files.old).draft }
     requires few { opened < 65535 }

@@ -20,7 +20,7 @@ use crate::tree::{
 };
 use afl_base::{Failed, FileId, Files, get_i32, get_u16};
 
-/// What a look at the bucket of a number finds: no bucket, so many pairs, or 32 and the number in `next`.
+/// What a look at the bucket of a number finds: no bucket, this many pairs, or 32 and the number in `next`.
 #[derive(Clone, Copy)]
 pub enum Look {
     None,
@@ -57,7 +57,7 @@ fn look_at<V: Files>(files: &mut V, index: FileId, number: u16) -> Result<Look, 
     Ok(Look::Full { next })
 }
 
-// The number of the last bucket in a file of so many bytes, 0 for none.
+// The number of the last bucket in a file of this many bytes, 0 for none.
 fn last_number(size: u32) -> u16
     requires heads { 683 ≤ size }
     requires small { size ≤ 268000 }
@@ -127,7 +127,7 @@ fn pair_place(number: u16, pair: u8) -> u32
     bucket_place(number - 1) + 6 * u32::from(pair)
 }
 
-// Where the number of the bucket behind one of a chain stands.
+// Where the number of the bucket after one of a chain stands.
 fn next_place(number: u16) -> u32
     requires some { number ≢ 0 }
     ensures place { result ≡ bucket_place (number - 1) + 192 }
@@ -172,7 +172,7 @@ fn chain_end<V: Files>(files: &mut V, index: FileId, start: u16) -> Result<End, 
     Ok(End::Nowhere)
 }
 
-// The end behind the full bucket of a lowest node, `last` being the last bucket of the file or 0.
+// The end after the full bucket of a lowest node, `last` being the last bucket of the file or 0.
 fn end_behind<V: Files>(
     files: &mut V,
     index: FileId,

@@ -51,7 +51,7 @@ impl Nodes {
         self.loads[n] = load + 1;
     }
 
-    /// Opens a node's next bucket behind all others.
+    /// Opens a node's next bucket after all others.
     pub fn open(&mut self, node: u16)
         requires node { node < 341 }
         requires few { self.old.opened < 65535 }
@@ -61,7 +61,7 @@ impl Nodes {
         self.opened += 1;
     }
 
-    /// Writes so many bytes of a node's group to a place of the draft.
+    /// Writes this many bytes of a node's group to a place of the draft.
     pub fn write<V: Files>(
         &self,
         files: &mut V,
@@ -86,7 +86,7 @@ impl Nodes {
     }
 }
 
-/// Where the last group of a node with so many pairs belongs, by where its last bucket lies.
+/// Where the last group of a node with this many pairs belongs, by where its last bucket lies.
 pub fn group_place(place: u32, load: u16) -> u32
     requires { place < 2 ^ 25 }
     ensures { result ≡ place + 24 * (load % 32 / 4) }

@@ -15,7 +15,7 @@ use crate::searching::{has_key, slot_in};
 use crate::tree::{BUCKET_SIZE, bucket_place, read_bucket, read_number};
 use afl_base::{Failed, FileId, Files};
 
-// Whether a place may stand behind a pair of a chain. A path of nodes is as soon walked from its root.
+// Whether a place may stand after a pair of a chain. A path of nodes is as soon walked from its root.
 fn may_stand(hint: Place, from: u16, size: u32) -> bool
     ensures stands { result ≡ true → MayStand hint from size }
 {
@@ -66,7 +66,7 @@ fn hop_of<V: Files>(files: &mut V, index: FileId, key: &i32, bucket: u16) -> Res
     Ok(4)
 }
 
-// The place of a hint, where it names the place behind the slot before one.
+// The place of a hint, where it names the place after the slot before one.
 fn place_of_hint<V: Files>(
     files: &mut V,
     index: FileId,
@@ -99,7 +99,7 @@ fn place_of_hint<V: Files>(
     }))
 }
 
-/// The place that a hint names, where it is the one behind the slot before one. It reads one bucket
+/// The place that a hint names, where it is the one after the slot before one. It reads one bucket
 /// where it is not, and else less than it saves.
 pub fn hinted<V: Files>(
     files: &mut V,

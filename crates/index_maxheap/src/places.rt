@@ -11,7 +11,7 @@ pub struct Place {
     pub hop: u16,
 }
 
-/// A slot of a key, and the place behind it.
+/// A slot of a key, and the place after it.
 #[derive(Clone, Copy, Debug, PartialEq, Eq)]
 pub struct Found {
     pub slot: SlotNo,

@@ -81,7 +81,7 @@ fn scan(bytes: &[u8; BUCKET_SIZE], start: u8, key: &i32, from: u16) -> Scanned
     Scanned::Passed
 }
 
-// The number of the bucket behind a full one, 0 for none. A node's number touches one region.
+// The number of the bucket after a full one, 0 for none. A node's number touches one region.
 fn number_onward<V: Files>(
     files: &mut V,
     index: FileId,
@@ -255,9 +255,9 @@ fn walk_from_root<V: Files>(
     walk(files, index, root, key, from)
 }
 
-/// The first slot of the key, from one on, at or behind a place, and the place behind it. `place` is
+/// The first slot of the key, from one on, at or after a place, and the place after it. `place` is
 /// None for the root, or came from a call for the same key; `from` may have grown since. Nothing is
-/// asked of `hint`: from the root the search goes on where it names the place behind the slot before
+/// asked of `hint`: from the root the search goes on where it names the place after the slot before
 /// `from`, which one look tells.
 pub fn next<V: Files>(
     files: &mut V,

@@ -21,7 +21,7 @@ pub const BUCKET_SIZE: usize = 195;
 /// Where in a bucket the number of the next one stands.
 pub const NEXT_AT: usize = 192;
 
-/// Where the bucket behind so many others begins.
+/// Where the bucket after this many others begins.
 pub fn bucket_place(buckets: u16) -> u32
     ensures { result ≡ bucket_place buckets }
 {

@@ -19,7 +19,7 @@ use crate::path::node;
 use crate::tree::{BUCKET_SIZE, HEAD_SIZE, NEXT_AT, bucket_place, filled, read_bucket};
 use afl_base::{Failed, FileId, Files, KeyColumn, SlotNo, get_i32, get_u16};
 
-/// The number behind a bucket, and how many pairs it has in front of its empty ones.
+/// The number after a bucket, and how many pairs it has in front of its empty ones.
 #[derive(Clone, Copy)]
 pub struct Tail {
     pub next: u16,
@@ -51,7 +51,7 @@ fn is_blank(bytes: &[u8; BUCKET_SIZE], from: u8) -> bool
     true
 }
 
-// Whether the bucket of an upper node has a number behind it.
+// Whether the bucket of an upper node has a number after it.
 fn is_upper(level: u8, next: u16) -> bool
     ensures yes { result ≡ true → (level < 4) × (next ≢ 0) }
     ensures no_ { result ≡ false → level < 4 → next ≡ 0 }
@@ -211,7 +211,7 @@ fn verify_slot<V: Files>(
     }
 }
 
-// The numbers of the nodes, and the byte behind them.
+// The numbers of the nodes, and the byte after them.
 fn read_heads<V: Files>(
     files: &mut V,
     index: FileId,
@@ -230,7 +230,7 @@ fn read_heads<V: Files>(
     Ok(())
 }
 
-// Whether a node has no number, or a last bucket with no pair behind those that were seen.
+// Whether a node has no number, or a last bucket with no pair after those that were seen.
 fn is_done(heads: &[u8; HEAD_SIZE], node: u16, load: u16, next: u16, fill: u8) -> bool
     requires { node ≤ 340 }
     ensures yes { result ≡ true → IsDone heads.now node load next fill }

@@ -16,7 +16,7 @@ abbrev pub first_from : ℕ → ℕ → List ℤ → ℕ
 first_from chain at [] = 2048
 first_from chain at (key ∷ keys) = if hash key == chain then at else first_from chain (at + 1) keys
 
--- the first entry with a hash at or behind one
+-- the first entry with a hash at or after one
 abbrev pub entry_from : List ℤ → ℕ → ℕ → ℕ
 entry_from keys chain from = first_from chain from (drop from keys)
 
@@ -36,14 +36,14 @@ end_link chain (suc entry) = 512 + entry
 
 -- The chains of some keys, by the entry that each link leads to and by the last entry of each chain, as they are held.
 pub record IsChained (keys : List ℤ) (links last : List ℕ) : Type 0 where
-  -- each link leads to the first entry of its chain behind it
+  -- each link leads to the first entry of its chain after it
   pub linked : (link : ℕ) → link < 512 + length keys → entry_held (get_or links link 0) ≡ entry_from keys (chain_at keys link) (link - 511)
   -- the last link of a chain is one of its links, and leads nowhere
   pub within : (chain : ℕ) → chain < 512 → end_link chain (get_or last chain 0) < 512 + length keys
   pub own : (chain : ℕ) → chain < 512 → chain_at keys (end_link chain (get_or last chain 0)) ≡ chain
   pub ends : (chain : ℕ) → chain < 512 → entry_from keys chain (end_link chain (get_or last chain 0) - 511) ≡ 2048
 
--- the arrays of a table with so many entries
+-- the arrays of a table with this many entries
 pub record IsHashTable (keys : List ℤ) (links last : List ℕ) (len : ℕ) : Type 0 where
   pub few : len ≤ 2048
   pub keys_size : length keys ≡ 2048

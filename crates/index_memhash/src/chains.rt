@@ -10,7 +10,7 @@ pub(crate) const CHAINS: u16 = 512;
 /// The most keys that a table holds.
 pub const MOST_KEYS: u16 = 2_048;
 
-/// Behind all entries: where a chain ends.
+/// After all entries: where a chain ends.
 pub(crate) const END: u16 = MOST_KEYS;
 
 /// The hash of a key, below 512.
@@ -90,7 +90,7 @@ fn link_before(keys: &[i32; 2048], len: u16, key: &i32, from: u16) -> u16
     chain_of(key)
 }
 
-// Whether an entry is at or behind one and has the key.
+// Whether an entry is at or after one and has the key.
 fn is_wanted(keys: &[i32; 2048], entry: u16, key: &i32, from: u16) -> bool
     requires within { entry < 2048 }
     ensures { result ≡ (nat_le from entry && is_key_at key.now keys.now entry) }

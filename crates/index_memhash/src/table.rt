@@ -16,7 +16,7 @@ pub struct HashPlace {
 #[derive(Drop)]
 pub struct HashTable {
     keys: [i32; 2048],
-    // The chains' heads, and behind them the link of each entry: the entry that each leads to. Here and in
+    // The chains' heads, and after them the link of each entry: the entry that each leads to. Here and in
     // `last` an entry is held as its number and 1, and 0 is none: so a table of zeros is empty.
     links: [u16; 2560],
     // The last entry of each chain.
@@ -95,7 +95,7 @@ impl HashTable {
         HashPlace { entry: 0 }
     }
 
-    /// The first slot of the key at or behind a place, and the place behind it; None exactly where
+    /// The first slot of the key at or after a place, and the place after it; None exactly where
     /// there is none. Every place is good, also after later inserts. A search touches the entries of one
     /// chain alone, and goes on from the entry that was answered last.
     pub fn next(&self, place: HashPlace, key: &i32) -> Option<(SlotNo, HashPlace)>

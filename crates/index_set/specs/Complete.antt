@@ -48,7 +48,7 @@ IsNarrowFor width Order = ⊤
 IsNarrowFor width (Tree file) = width ≢ 8
 IsNarrowFor width (Table number) = width ≢ 8
 
--- the fields of so many slots lie in their file, and a tree's file is there: what an index needs to be read
+-- the fields of this many slots lie in their file, and a tree's file is there: what an index needs to be read
 pub record IsReadable (state : State) (slots : ℕ) (info : IndexInfo) : Type 0 where
   pub place : info.attribute < 8
   pub width : IsWidth info.column.width
@@ -56,7 +56,7 @@ pub record IsReadable (state : State) (slots : ℕ) (info : IndexInfo) : Type 0 
   pub fields : (slot : ℕ) → slot < slots → HasField state info.column slot
   pub tree : HasTree state info.access
 
--- the index has its tree, which doubles, or its table with so many keys: what it needs to be written
+-- the index has its tree, which doubles, or its table with this many keys: what it needs to be written
 abbrev pub IsHeld : State → Tables → ℕ → Access → Type 0
 IsHeld state tables slots Order = ⊤
 IsHeld state tables slots (Tree file) = IsLive state.files file × ((file_at state.files file).kind ≡ Doubling)
@@ -79,7 +79,7 @@ AreComplete state tables all infos = AllByRecursion (λ info. IsComplete state t
 abbrev pub AreHeld : State → Tables → ℕ → List IndexInfo → Type 0
 AreHeld state tables slots infos = AllByRecursion (λ info. IsHeld state tables slots info.access) infos
 
--- the most pages that a test of an index of so many slots reads
+-- the most pages that a test of an index of this many slots reads
 abbrev pub most_reads : ℕ → Access → ℕ
 most_reads slots Order = 6 * slots
 most_reads slots (Tree file) = 15 * slots + 2048

@@ -95,7 +95,7 @@ HaveKeys tuple infos = AllByRecursion (λ info. HasKeyFor (slice_get tuple info.
 abbrev pub tuple_key : List Value → IndexInfo → ℤ
 tuple_key tuple info = key_of (slice_get tuple info.attribute)
 
--- the next key may stand behind the others
+-- the next key may stand after the others
 abbrev pub MayFollow : List ℤ → ℤ → Access → Type 0
 MayFollow keys key Order = first_fall (keys ++ key ∷ []) ≡ None
 MayFollow keys key (Tree file) = ⊤
@@ -160,7 +160,7 @@ OneAsksFor asks state tuple n infos = SomeOf (λ info. AsksFor asks state (tuple
 
 -- ---- what a cut leaves
 
--- the pairs of a tree name no slots behind so many
+-- the pairs of a tree name no slots after this many
 abbrev pub NamesFew : State → ℕ → Access → Type 0
 NamesFew state slots Order = ⊤
 NamesFew state slots (Tree file) = NamesOnly slots (bytes_at state.files file)
@@ -169,7 +169,7 @@ NamesFew state slots (Table number) = ⊤
 abbrev pub AllNameFew : State → ℕ → List IndexInfo → Type 0
 AllNameFew state slots infos = AllByRecursion (λ info. NamesFew state slots info.access) infos
 
--- a key was being put into an index: no file has changed but its tree's, whose pairs name no slot behind the key's
+-- a key was being put into an index: no file has changed but its tree's, whose pairs name no slot after the key's
 pub record MayInsertKey (old after : State) (tables : Tables) (access : Access) (room : Room) (key : ℤ) (slot : ℕ) : Type 0 where
   pub others : SparesOthers old after (λ id. IsApart id access)
   pub names : (keys : List ℤ) → length keys ≡ slot → IsComplete old tables access keys → IsRoomFor old key room access → NamesFew after (slot + 1) access

@@ -39,12 +39,12 @@ slots_searched search all from end = filter (λ slot. search_takes search (get_o
 abbrev pub ahead : Candidates → List Row → List ℕ
 ahead c all = slots_searched c.search all c.from c.slots
 
--- rows may have come behind the others, which are the same
+-- rows may have come after the others, which are the same
 pub record RowsGrow (old new : List Row) : Type 0 where
   pub more : length old ≤ length new
   pub same : (i : ℕ) → i < length old → get_or new i no_row ≡ get_or old i no_row
 
--- ---- what candidates know of the rows alone, and so whatever comes behind
+-- ---- what candidates know of the rows alone, and so whatever comes after
 
 -- all rows from one up to another are in the range, and none from there on
 abbrev pub KnowsRows : Search → List Row → ℕ → ℕ → ℕ → Type 0
@@ -66,7 +66,7 @@ HasIndex (by.Tree attribute file key) place state tables all from =
 HasIndex (by.Table attribute number key) place state tables all from = entries tables number ≡ keys attribute all
 HasIndex _ place state tables all from = ⊤
 
--- they stand where they should, over these rows; behind their last slot no index is asked
+-- they stand where they should, over these rows; after their last slot no index is asked
 pub record Fits (c : Candidates) (state : State) (tables : Tables) (all : List Row) : Type 0 where
   pub waits : Waits c all
   pub index : c.from < c.slots → HasIndex c.search c.place state tables all c.from
@@ -141,12 +141,12 @@ pub record IsEnded (old new : Candidates) : Type 0 where
 abbrev pub IsFirst : Option ℕ → Candidates → Candidates → List Row → Type 0
 IsFirst found old new all = MatchOption found (ahead old all ≡ []) (λ slot. ahead old all ≡ slot ∷ ahead new all)
 
--- and they stand behind it
+-- and they stand after it
 abbrev pub Finds : Option ℕ → Candidates → Candidates → State → Tables → List Row → Type 0
 Finds found old new state tables all =
     MatchOption found (ahead old all ≡ []) (λ slot. (ahead old all ≡ slot ∷ ahead new all) × Fits new state tables all)
 
--- over these rows, a step that began and ended at so many reads: what is ahead pays for what was read
+-- over these rows, a step that began and ended at this many reads: what is ahead pays for what was read
 pub record Steps (found : Option ℕ) (old new : Candidates) (state : State) (tables : Tables) (all : List Row) (before after : ℕ) : Type 0 where
   pub first : IsFirst found old new all
   pub fits : Fits new state tables all

@@ -13,14 +13,14 @@ ghost use Rattle.index_set.specs.Inserts.{AllKeepBuckets};
 ghost use Rattle.index_set.specs.Tables.{Tables};
 ghost use Rattle.index_set.specs.Walks.{Fits, HasGrown, IsChosen, RowsGrow, Waits, ahead};
 
-/// The slots to come are the same where rows come behind the others.
+/// The slots to come are the same where rows come after the others.
 #[tactic(auto, using(crate::proofs::Grown::ahead_kept))]
 pub fn ahead_where_rows_come()
     ensures { (c : AnyCandidates) (old new : List Row) → RowsGrow old new → Waits c old
         → ahead c new ≡ ahead c old }
 {}
 
-/// What candidates know of the rows alone stays where rows come behind the others.
+/// What candidates know of the rows alone stays where rows come after the others.
 #[tactic(auto, using(crate::proofs::Grown::waits_kept))]
 pub fn waits_where_rows_come()
     ensures { (c : AnyCandidates) (old new : List Row) → RowsGrow old new → Waits c old

@@ -25,7 +25,7 @@ use db_model::Range;
 use index_inline::range as slots_within;
 use index_maxheap::{Place, next as next_in};
 
-// Behind all buckets of a path.
+// After all buckets of a path.
 const BEHIND: Place = Place {
     bucket: 0,
     pair: 0,
@@ -129,7 +129,7 @@ impl Candidates {
         }
     }
 
-    /// The next slot, `None` exactly after the last. Then it stands behind all its slots, and answers
+    /// The next slot, `None` exactly after the last. Then it stands after all its slots, and answers
     /// `None` from now on.
     pub fn next<V: Files>(
         &mut self,
@@ -157,7 +157,7 @@ impl Candidates {
         }
     }
 
-    // Goes behind all its slots.
+    // Goes after all its slots.
     fn finish(&mut self)
         ensures { IsEnded self.old self.new }
     {

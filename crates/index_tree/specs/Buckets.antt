@@ -4,7 +4,7 @@ use Rattle.afl_base.specs.Fields.{i32_at, u16_at}
 use Rattle.index_tree.specs.Pairs.{Pair}
 use Rattle.index_tree.specs.TreeFile.{HoldsPairs, bucket_place, key_at, last_at, next_at, place_of, slot_at}
 
--- so many pairs of a bucket's bytes stand before the first empty one
+-- this many pairs of a bucket's bytes stand before the first empty one
 pub record IsFilled (bytes : List ℕ) (pairs : ℕ) : Type 0 where
   pub most : pairs ≤ 32
   pub some : (i : ℕ) → i < pairs → slot_at bytes 0 i ≢ 0

@@ -11,7 +11,7 @@ pub record IsPathEnd (ps : List Pair) (key : ℤ) (hop : ℕ) : Type 0 where
 
 -- ---- where numbers of buckets stand
 
--- where the number behind that of a bucket at a hop stands
+-- where the number after that of a bucket at a hop stands
 abbrev pub spot_behind : ℤ → ℕ → ℕ → ℕ
 spot_behind key zero number = 2 * node key 1
 spot_behind key (suc zero) number = 2 * node key 2
@@ -26,7 +26,7 @@ spot_of bytes key (suc hop) = spot_behind key hop (number_of bytes key hop)
 
 -- ---- read off the bytes
 
--- the pairs of the bucket at a place before its first empty one, of so many from a pair on
+-- the pairs of the bucket at a place before its first empty one, of this many from a pair on
 abbrev pub filled_from : ℕ → List ℕ → ℕ → ℕ → ℕ
 filled_from zero bytes place pair = pair
 filled_from (suc turns) bytes place pair = if slot_at bytes place pair == 0 then pair else filled_from turns bytes place (pair + 1)
@@ -35,7 +35,7 @@ filled_from (suc turns) bytes place pair = if slot_at bytes place pair == 0 then
 abbrev pub filled_of : List ℕ → ℕ → ℕ
 filled_of bytes number = if number == 0 then 0 else filled_from 32 bytes (place_of number) 0
 
--- the first hop of a key's path, of so many from one on, at which no bucket stands or one with room
+-- the first hop of a key's path, of this many from one on, at which no bucket stands or one with room
 abbrev pub end_from : ℕ → List ℕ → ℤ → ℕ → ℕ
 end_from zero bytes key hop = hop
 end_from (suc turns) bytes key hop = if nat_lt (filled_of bytes (number_of bytes key hop)) 32 then hop else end_from turns bytes key (hop + 1)

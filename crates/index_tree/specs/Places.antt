@@ -9,7 +9,7 @@ pub record IsPlace {P : Type 0} (test : ℕ → P → Bool) (ps : List P) (hop p
   pub within : pair ≤ length (reaching test hop ps)
   pub short : pair ≤ 32
 
--- those that pass a test, at or behind a place
+-- those that pass a test, at or after a place
 abbrev pub ahead_of_place : {P : Type 0} → (P → Bool) → (ℕ → P → Bool) → List P → ℕ → ℕ → List P
 ahead_of_place mine test ps hop pair = filter mine (drop pair (reaching test hop ps))
 
@@ -17,7 +17,7 @@ ahead_of_place mine test ps hop pair = filter mine (drop pair (reaching test hop
 abbrev pub is_wanted : ℤ → ℕ → Pair → Bool
 is_wanted key from p = has_key key p && nat_le from p.slot
 
--- the pairs of a key and of slots from one on, at or behind a pair of the bucket at a hop
+-- the pairs of a key and of slots from one on, at or after a pair of the bucket at a hop
 abbrev pub to_come : List Pair → ℤ → ℕ → ℕ → ℕ → List Pair
 to_come ps key from hop pair = ahead_of_place (is_wanted key from) (goes key) ps hop pair
 
@@ -26,7 +26,7 @@ pub record IsOnPath (ps : List Pair) (key : ℤ) (hop : ℕ) : Type 0 where
   pub full : (i : ℕ) → i < hop → 32 ≤ length (reaching (goes key) i ps)
   pub some : 0 < length (reaching (goes key) hop ps)
 
--- a place in the bucket of a number at a hop: all that is wanted comes at or behind it
+-- a place in the bucket of a number at a hop: all that is wanted comes at or after it
 pub record IsPlaceAt (bytes : List ℕ) (ps : List Pair) (key : ℤ) (from number pair hop : ℕ) : Type 0 where
   pub there : number ≡ number_of bytes key hop
   pub some : number ≢ 0

@@ -11,7 +11,7 @@ bucket_count bytes = (length bytes - 683) / 195
 abbrev pub slot_on : List ℕ → ℤ → ℕ → ℕ → ℕ
 slot_on bytes key hop pair = slot_at bytes (place_of (number_of bytes key hop)) pair
 
--- the file meets the rules for so many slots with these keys. The pair of a slot is told by its hop and its place in the bucket
+-- the file meets the rules for this many slots with these keys. The pair of a slot is told by its hop and its place in the bucket
 pub record MeetsRules (bytes : List ℕ) (key : ℕ → ℤ) (slots : ℕ) : Type 0 where
   -- 1: a bucket's pairs are filled from the front, an empty pair has key 0, and each bucket has a pair
   pub front : (b i : ℕ) → b < bucket_count bytes → i + 1 < 32 → slot_at bytes (bucket_place b) i ≡ 0
@@ -19,7 +19,7 @@ pub record MeetsRules (bytes : List ℕ) (key : ℕ → ℤ) (slots : ℕ) : Typ
   pub blank : (b i : ℕ) → b < bucket_count bytes → i < 32 → slot_at bytes (bucket_place b) i ≡ 0
       → key_at bytes (bucket_place b) i ≡ pos 0
   pub some : (b : ℕ) → b < bucket_count bytes → slot_at bytes (bucket_place b) 0 ≢ 0
-  -- 2: behind a bucket that is not full a path has no bucket, and next is set in no bucket of an upper node
+  -- 2: after a bucket that is not full a path has no bucket, and next is set in no bucket of an upper node
   pub full : (k : ℤ) (hop : ℕ) → number_of bytes k (suc hop) ≢ 0 → (number_of bytes k hop ≢ 0)
       × (slot_on bytes k hop 31 ≢ 0)
   pub upper : (k : ℤ) (hop : ℕ) → hop < 4 → number_of bytes k hop ≢ 0

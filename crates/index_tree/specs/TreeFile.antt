@@ -34,7 +34,7 @@ last_at bytes place = slice_index bytes (place + 194)
 
 -- ---- paths
 
--- the number behind that of a bucket at a hop of a key's path: the next node's, and in a chain next
+-- the number after that of a bucket at a hop of a key's path: the next node's, and in a chain next
 abbrev pub next_number : List ℕ → ℤ → ℕ → ℕ → ℕ
 next_number bytes key zero number = bucket_number bytes (node key 1)
 next_number bytes key (suc zero) number = bucket_number bytes (node key 2)
@@ -77,7 +77,7 @@ pub record IsTree (bytes : List ℕ) (ps : List Pair) : Type 0 where
   pub upper : (key : ℤ) (hop : ℕ) → hop < 4 → number_of bytes key hop ≢ 0
       → next_at bytes (place_of (number_of bytes key hop)) ≡ 0
 
--- no pair of these bytes names a slot behind so many
+-- no pair of these bytes names a slot after this many
 abbrev pub NamesOnly : ℕ → List ℕ → Type 0
 NamesOnly slots bytes = (bucket pair : ℕ) → pair < 32 → bucket_place bucket + 6 * pair + 6 ≤ length bytes
     → slot_at bytes (bucket_place bucket) pair ≤ slots

@@ -11,7 +11,7 @@ ghost use Rattle.index_tree.specs.Rules.{MeetsRules, bucket_count};
 ghost use Rattle.index_tree.specs.TreeFile.{bucket_place};
 ghost use Rattle.index_tree.specs.Trees.{IsTreeOf, pairs_along};
 
-/// A file meets the five rules for the keys of so many slots exactly where it is the tree of those keys.
+/// A file meets the five rules for the keys of this many slots exactly where it is the tree of those keys.
 /// Each list of keys is that of its own slots.
 #[tactic(auto, using(crate::proofs::Numbered::keys_first))]
 pub fn rules_are_the_tree()
@@ -22,7 +22,7 @@ pub fn rules_are_the_tree()
     ensures keys { (keys : List ℤ) → first_keys (key_in keys) (length keys) ≡ keys }
 {}
 
-/// A tree has as many buckets as its keys need, and no other bytes behind its numbers: at most 853 buckets
+/// A tree has as many buckets as its keys need, and no other bytes after its numbers: at most 853 buckets
 /// for 16,384 keys, and never more than 1,365.
 #[tactic(auto, using(crate::proofs::Law::counted, crate::proofs::Law::sized, crate::proofs::Law::half_many, crate::proofs::Law::most_many))]
 pub fn a_tree_has_few_buckets()

@@ -1,7 +1,7 @@
 /// Why what takes an input went no further.
 #[derive(Clone, Copy, Debug, PartialEq, Eq)]
 pub enum Ending {
-    /// No extent of the pages that are needed could be had.
+    /// No extent of the pages that are needed was available.
     Space,
     /// The flash failed.
     Flash,

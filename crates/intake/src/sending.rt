@@ -10,9 +10,9 @@ use crate::ending::Ending;
 use afl_base::{Failed, Sink};
 use buffered_sink::{Buffered, Since};
 
-/// Hands on what waits of a reply, unless the sink has failed before. What waits behind a fault of the
+/// Hands on what waits of a reply, unless the sink has failed before. What waits after a fault of the
 /// flash goes out as far as the sink takes it.
-// Inlined, since nothing waits behind most bytes.
+// Inlined, since nothing waits after most bytes.
 #[inline(always)]
 pub fn send<'a, K: Sink, S: Since>(
     gathered: &mut Buffered<'a, K, S>,

@@ -61,7 +61,7 @@ pub trait Taker {
 
     ghost stayed_on: { (a b c : Self) → stays a b → stays b c → stays a c };
 
-    // Bytes are taken one after the other, and where it goes no further the bytes behind that play no part.
+    // Bytes are taken one after the other, and where it goes no further the bytes after that play no part.
     ghost none: { (a : Self × Out) → Takes a [] a };
 
     ghost more: { (a b c : Self × Out) (xs ys : List ℕ)

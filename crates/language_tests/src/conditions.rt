@@ -51,7 +51,7 @@ fn condition(nodes: &[Node]) -> Condition
     condition
 }
 
-// What a condition behind so many names of a list is compiled to.
+// What a condition after this many names of a list is compiled to.
 fn compiled(nodes: &[Node], names: u8) -> Result<Code, Refusal>
     requires condition { IsCondition nodes.now }
     requires few { length nodes.now ≤ 32 }

@@ -30,7 +30,7 @@ abbrev pub LeavesMemory : Form → (old input : List ℕ) → (status : ℕ) →
 LeavesMemory form old input status new replies =
     (rest : Option (List ℕ)) × LeftBy status form (world old (Some input) (Some [])) (world new rest (Some replies))
 
--- all of it in one: `room` is the memory for replies behind the run, of which the first bytes were written
+-- all of it in one: `room` is the memory for replies after the run, of which the first bytes were written
 pub record RunsInMemory (form : Form) (old input : List ℕ) (status written : ℕ) (new room : List ℕ) : Type 0 where
   pub only : IsLentStatus status
   pub size : (status ≢ 10) ↔ IsImageLength (length old)
@@ -51,7 +51,7 @@ pub record RepairsInMemory (old : List ℕ) (status written : ℕ) (new room : L
   pub full : status ≡ 5 → written ≡ length room
   pub told : status ≢ 10 → Repairs status old new (Some []) (Some (take written room))
 
--- the same of a check, behind which the image is as it was
+-- the same of a check, after which the image is as it was
 pub record ChecksInMemory (old : List ℕ) (status written : ℕ) (new room : List ℕ) : Type 0 where
   pub only : IsLentCheckStatus status
   pub size : (status ≢ 10) ↔ IsImageLength (length old)

@@ -10,7 +10,7 @@ use crate::length::sectors_of;
 use crate::sink::LentSink;
 use repair_run::check;
 
-/// Tells whether the image in `image` is sound, and what `repair_lent` would put right, and puts that in front of
+/// Tells whether the image in `image` is sound, and what `repair_lent` would repair, and puts that in front of
 /// `replies`. The image stays.
 ///
 /// The statuses 0 and 6 are those of `repair_run::check`. 5 comes only where `replies` is full, and 10

@@ -20,7 +20,7 @@ pub struct LentFlash<'a> {
 impl<'a> LentFlash<'a> {
     ghost use Rattle.std.specs.Prelude.{◌≡◌, ◌*◌, ◌+◌, ◌≤◌, length, slice_range};
 
-    /// Takes the bytes of an image of so many sectors as they stand.
+    /// Takes the bytes of an image of this many sectors as they stand.
     pub fn new(image: &'a mut [u8], sectors: u16) -> LentFlash<'a>
         requires least { 4 ≤ sectors }
         requires most { sectors ≤ 4095 }

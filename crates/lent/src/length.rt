@@ -3,7 +3,7 @@ ghost use Rattle.afl_sim.specs.Lengths.{IsImageLength};
 
 use afl_base::SECTOR_SIZE;
 
-/// How many sectors an image of so many bytes has, where an image may have so many.
+/// How many sectors an image of this many bytes has, where an image may have this many.
 pub fn sectors_of(bytes: usize) -> Option<u16>
     ensures variant { IsSome result ↔ IsImageLength bytes }
     ensures whole { IfSome result (λ n. bytes ≡ 4096 * n) }

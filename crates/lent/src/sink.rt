@@ -2,7 +2,7 @@ ghost use Rattle.std.specs.Prelude.{◌≡◌, ◌≢◌, ◌≤◌, length};
 
 use afl_base::{Failed, Sink};
 
-/// A sink that puts the bytes of replies behind one another into memory that is lent. It fails where
+/// A sink that puts the bytes of replies one after another into memory that is lent. It fails where
 /// no room is left, and only there.
 #[derive(Drop)]
 pub struct LentSink<'a> {

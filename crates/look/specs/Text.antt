@@ -17,7 +17,7 @@ use Rattle.look.specs.declared.pages.PageCounts.{PageCounts}
 use Rattle.look.specs.Pages.{page_counts}
 use Rattle.sound_image.specs.Images.{base}
 
--- words and a number behind them
+-- words and a number after them
 abbrev pub counted_words : List ℕ → ℕ → List ℕ
 counted_words words n = words ++ decimal n
 
@@ -45,7 +45,7 @@ attribute_text a = a.name ++ codes " " ++ domain_text (domain_named a.domain)
 abbrev pub schema_text : Schema → List ℕ
 schema_text s = (codes "relation " ++ s.name ++ codes " (") ++ list_text attribute_text s.attributes ++ codes ")"
 
--- and behind it ` rows LIVE removed REMOVED slots left LEFT`
+-- and after it ` rows LIVE removed REMOVED slots left LEFT`
 abbrev pub rows_line : Schema → (live removed left : ℕ) → List ℕ
 rows_line s live removed left =
     schema_text s ++ counted_words (codes " rows ") live ++ line (counted_words (codes " removed ") removed ++ counted_words (codes " slots left ") left)
@@ -61,7 +61,7 @@ removed_rows rows = length (filter (λ row. not row.live) rows)
 abbrev pub mark_of : Row → ℕ
 mark_of row = if row.live then 1 else 0
 
--- the line of a relation that may have so many slots
+-- the line of a relation that may have this many slots
 abbrev pub relation_line : (limit : ℕ) → Relation → List ℕ
 relation_line limit r = rows_line r.schema (live_count r.rows) (removed_rows r.rows) (limit - length r.rows)
 

@@ -43,7 +43,7 @@ pub fn count_pages<F: Flash>(flash: &mut F) -> Result<PageCounts, Failed>
     Ok(counts)
 }
 
-// These and so many pages that are to be collected.
+// These and this many pages that are to be collected.
 fn with_rest(counts: &PageCounts, pages: u16) -> PageCounts
     requires few { all_pages counts.now + pages ≤ 65535 }
     ensures all { all_pages result ≡ all_pages counts.now + pages }

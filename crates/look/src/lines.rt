@@ -14,7 +14,7 @@ use db_model::{Attribute, Ident, IndexKind, Schema};
 use dump::{kind_text, write_comma, write_domain, write_three};
 use reply_text::{write_all, write_count, write_line_of_counts};
 
-// Appends the line of a relation with so many live and removed rows, and so many slots left.
+// Appends the line of a relation with this many live and removed rows, and this many slots left.
 pub fn write_rows_line<K: Sink>(
     out: &mut K,
     schema: &Schema,

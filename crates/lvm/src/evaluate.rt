@@ -25,7 +25,7 @@ pub fn evaluated<V: Values>(instructions: &[Instruction], values: &V) -> bool
     }
 }
 
-// The same where there is one comparison, or two, as in most conditions: these want no stack.
+// The same where there is one comparison, or two, as in most conditions: these need no stack.
 fn evaluated_at_once<V: Values>(instructions: &[Instruction], values: &V) -> Option<bool>
     requires { V.readable values.now }
     ensures { IfSome result (λ truth.

@@ -36,7 +36,7 @@ pub fn one_relation(domain: u8) -> [u8; 1480] {
     bytes
 }
 
-/// The same with six attributes, INTs, and these bytes behind them. A region ends four bytes behind them.
+/// The same with six attributes, INTs, and these bytes after them. A region ends four bytes after them.
 pub fn six_attributes(behind: &[u8]) -> [u8; 1480] {
     let mut bytes = no_relation();
     bytes[0] = b'r';

@@ -1,4 +1,4 @@
-//! Tests of what is put right in the files of a database behind a cut, over files in memory: one for each
+//! Tests of what is repaired in the files of a database after a cut, over files in memory: one for each
 //! thing that a cut leaves, and files that no cut leaves.
 #![tactic(auto)]
 

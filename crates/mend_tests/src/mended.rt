@@ -1,4 +1,4 @@
-//! Whether files are put right, and what is said of it.
+//! Whether files are repaired, and what is said of it.
 
 ghost use Rattle.std.specs.Prelude.{◌≡◌, None, OnOk};
 
@@ -8,7 +8,7 @@ use catalog::load;
 use stored_mend::{Report, mend_database, write_report};
 use stored_survey::may_be_cut;
 
-/// Whether the files are found to be those of a cut, are put right with these lines, and then keep all
+/// Whether the files are found to be those of a cut, are repaired with these lines, and then keep all
 /// rules, so that there is no more to be done.
 pub fn is_mended<V: Files>(files: &mut V, lines: &[u8]) -> Result<bool, FileError>
     requires idle { (V.state files.old).draft ≡ None }

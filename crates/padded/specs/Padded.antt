@@ -2,11 +2,11 @@
 use Rattle.std.specs.Prelude.{◌≡◌, ℕ, ◌-◌, ◌≤◌, List, ◌++◌, length, take, replicate}
 use Rattle.std.proofs.Common.{length-take-le, subst, sym}
 
--- bytes, and zeros behind them up to the width n
+-- bytes, and zeros after them up to the width n
 abbrev pub padded : ℕ → List ℕ → List ℕ
 padded n bytes = bytes ++ replicate (n - length bytes) 0
 
--- an array of n bytes holds len bytes of meaning, and zeros behind them
+-- an array of n bytes holds len bytes of meaning, and zeros after them
 pub record IsPadded (n len : ℕ) (bytes : List ℕ) : Type 0 where
   pub short : len ≤ n
   pub long : length bytes ≡ n

@@ -1,4 +1,4 @@
-//! The words behind a program's name, and the image and the input that they name.
+//! The words after a program's name, and the image and the input that they name.
 
 #![tactic(auto)]
 
@@ -16,9 +16,9 @@ use std::io::ErrorKind;
 /// What is done to an image that is no run on it.
 #[derive(Clone, Copy, PartialEq, Eq, Debug)]
 pub enum Upkeep {
-    /// It is put right.
+    /// It is repaired.
     Repair,
-    /// It is told what a repair would put right.
+    /// Writes what a repair would change.
     Check,
     /// What a collection takes is erased.
     Collect,
@@ -31,8 +31,8 @@ pub struct Named<'w> {
     pub input: &'w str,
 }
 
-/// The words behind the program's name. Where one of them is no text, there are none, so that they
-/// are words of no form.
+/// The words after the program's name. Where one of them is no text, there are none, so that they
+/// are wrong arguments.
 ///
 /// # Errors
 ///
@@ -52,7 +52,7 @@ pub fn words<R: Env + AllocGlobal>(rt: &R) -> Result<Vec<String>, Failure>
     Ok(words)
 }
 
-/// What the words of a form, or of upkeep, name. Words of no form name nothing.
+/// What the arguments of a form, or of upkeep, name. Wrong arguments name nothing.
 pub fn names(words: &[String]) -> Option<Named<'_>>
     ensures none { (result ≡ None) ↔ ((form_of words.now ≡ None) × (upkeep_of words.now ≡ None)) }
 {

@@ -31,7 +31,7 @@ abbrev pub IsCheckSaid : (status : ℕ) → List Mended → Result Verdict Faile
 IsCheckSaid status mended came held now =
     ((status ≡ check_status came) × (now ≡ append_known held (check_text mended came))) ⊎ ((status ≡ 5) × WroteLess held now (check_text mended came))
 
--- the image is sound; it is not, and its files are sound or can be put right, as where a repair writes; or this is its
+-- the image is sound; it is not, and its files are sound or can be repaired, as where a repair writes; or this is its
 -- first broken rule
 abbrev pub Finds : List ℕ → Result Verdict Failed → Type 0
 Finds image (Ok Sound) = IsSound image

@@ -18,7 +18,7 @@ IsFound image Sound = IsSound image
 IsFound image (Cut trouble bad) = (IsSound image → ⊥) × IsCutBy image trouble × IsMendable image
 IsFound image (Strange bad) = IsFirstBroken image bad.rule bad.place
 
--- what a cut left lies inside a flash of so many bytes
+-- what a cut left lies inside a flash of this many bytes
 abbrev pub IsFindingInside : (size : ℕ) → Finding → Type 0
 IsFindingInside size Sound = ⊤
 IsFindingInside size (Cut trouble bad) = IsTroubleInside size trouble

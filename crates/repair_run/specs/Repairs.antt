@@ -19,7 +19,7 @@ use Rattle.repair_run.specs.declared.came.Came.TheVariants.{Sound, Repaired, Str
 use Rattle.repair_run.specs.declared.came.Hindrance.{Hindrance}
 use Rattle.repair_run.specs.declared.came.Hindrance.TheVariants.{Spaceless, Unsettled, Failed}
 
--- what is said, where so much was put right in the database
+-- what is said, where so much was repaired in the database
 abbrev pub said : List Mended → Result Came Hindrance → List ℕ
 said mended (Ok Sound) = line (codes "sound")
 said mended (Ok Repaired) = report_text mended ++ line (codes "repaired")
@@ -49,7 +49,7 @@ pub record IsLeftStrange (old new : List ℕ) (bad : BadImage) : Type 0 where
 
 -- what is left of an image: it is sound, and as it was; it was not sound, and is, and stands for the database that it
 -- mended to, put right; it is as it was, and this is its first broken rule; or the repair came to no end. It is written only where it is
--- not sound, and its files can be put right
+-- not sound, and its files can be repaired
 abbrev pub Leaves : (old new : List ℕ) → Result Came Hindrance → Type 0
 Leaves old new (Ok Sound) = IsSound old × (new ≡ old)
 Leaves old new (Ok Repaired) = (IsSound old → ⊥) × IsMendable old × IsSound new × ImageReadsAs old (λ db. IsPutRight db (base new))

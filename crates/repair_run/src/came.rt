@@ -6,7 +6,7 @@ use coffee_layout::BadImage;
 pub enum Came {
     /// The image is sound.
     Sound,
-    /// It was put right.
+    /// It was repaired.
     Repaired,
     /// No cut leaves such an image, of which this is the first broken rule.
     Strange(BadImage),
@@ -15,7 +15,7 @@ pub enum Came {
 /// Why a repair came to no end.
 #[derive(Clone, Copy, PartialEq, Eq, Debug)]
 pub enum Hindrance {
-    /// There is no extent of so many pages for what is to be put right.
+    /// There is no room for an extent of this many pages, which the repair needs.
     Spaceless { need: u16 },
     /// The image has this first broken rule still, on a flash that answers otherwise at each read.
     Unsettled(BadImage),

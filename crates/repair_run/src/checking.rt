@@ -8,12 +8,12 @@ use crate::verdicts::{Verdict, say_verdict};
 use afl_base::{Failed, Flash, Sink};
 use stored_mend::Report;
 
-/// Tells whether an image is sound, and what `repair` would put right where it is not, and answers the status that
+/// Tells whether an image is sound, and what `repair` would repair where it is not, and answers the status that
 /// the program ends with. It reads alone.
 ///
 /// | status | comes |
 /// |---|---|
-/// | 0 | the image is sound: `sound` was written; or it is not, and `repair` would write: a line was written for each thing that it would put right in its database where the flash has room, and `to be repaired` |
+/// | 0 | the image is sound: `sound` was written; or it is not, and `repair` would write: a line was written for each thing that it would repair in its database where the flash has room, and `to be repaired` |
 /// | 4, 5 | only where the flash, the sink counted a fault |
 /// | 6 | the image is not sound, and no cut leaves such a one: `no image RULE PLACE` was written |
 pub fn check<F: Flash, K: Sink>(out: &mut K, flash: &mut F) -> u8
@@ -30,7 +30,7 @@ pub fn check<F: Flash, K: Sink>(out: &mut K, flash: &mut F) -> u8
     say_verdict(out, &report, verdict)
 }
 
-// What a check comes to. What a repair would put right is added to the report.
+// What a check comes to. What a repair would repair is added to the report.
 fn judge_and_foretell<F: Flash>(flash: &mut F, report: &mut Report) -> Result<Verdict, Failed>
     ensures finds { IsTrue F.tells → Finds (F.image flash.old) result }
     ensures same { F.image flash.new ≡ F.image flash.old }

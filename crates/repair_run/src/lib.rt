@@ -1,4 +1,4 @@
-//! Puts right an image of a flash that a power cut left, or tells by reading alone what that would come to.
+//! Repairs an image of a flash that a power cut left, or tells by reading alone what that would do.
 #![tactic(auto)]
 
 mod came;

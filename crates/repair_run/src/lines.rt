@@ -53,7 +53,7 @@ fn write_came<K: Sink>(
     }
 }
 
-// The lines of a report, and that the image is put right.
+// The lines of a report, and that the image is repaired.
 #[tactic(auto, using(reply_text::proofs::Pieces::less_front, reply_text::proofs::Pieces::less_behind))]
 fn write_repaired<K: Sink>(out: &mut K, report: &Report) -> Result<(), Failed>
     ensures written { let all = report_text report.now.mended ++ line (codes "repaired") in

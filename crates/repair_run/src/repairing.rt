@@ -18,12 +18,12 @@ use coffee_layout::BadImage;
 use coffee_mend::{MendError, mend};
 use stored_mend::Report;
 
-/// Puts an image right that a power cut left, and answers the status that the program ends with.
+/// Repairs an image that a power cut left, and answers the status that the program ends with.
 ///
 /// | status | comes |
 /// |---|---|
 /// | 0 | the image was sound: `sound` was written, and it is as it was; or it was not, and is now, and stands for the database that it mended to, in which a relation may have one removed row more, and an index that had a tree may be gone: a line was written for each thing that was put right in its database, and `repaired` |
-/// | 3 | the flash has no room for what is to be put right, and `no space N` was written |
+/// | 3 | the flash has no room for what must be repaired, and `no space N` was written |
 /// | 4, 5 | only where the flash, the sink counted a fault |
 /// | 6 | the image is not sound, and no cut leaves such a one: `no image RULE PLACE` was written |
 pub fn repair<F: Flash, K: Sink>(out: &mut K, flash: &mut F) -> u8
@@ -55,7 +55,7 @@ fn put_right<F: Flash>(flash: &mut F, report: &mut Report) -> Result<Came, Hindr
     }
 }
 
-// Puts an image right of whose files a cut left this, and which breaks this rule first: first the files, and then the
+// Repairs an image of whose files a cut left this, and which breaks this rule first: first the files, and then the
 // database in them.
 fn put_cut_right<F: Flash>(
     flash: &mut F,
@@ -79,7 +79,7 @@ fn put_cut_right<F: Flash>(
     }
 }
 
-// Puts right what a cut left of the files of an image that breaks this rule first.
+// Repairs what a cut left of the files of an image that breaks this rule first.
 fn mend_files<F: Flash>(flash: &mut F, trouble: &Trouble, bad: BadImage) -> Result<(), Hindrance>
     requires inside { IsTroubleInside (length (F.image flash.old)) trouble.now }
     ensures mended { IsTrue F.tells → IsCutBy (F.image flash.old) trouble.now

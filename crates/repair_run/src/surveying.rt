@@ -40,7 +40,7 @@ fn survey_settled<F: Flash>(flash: F, trouble: &Trouble, surveyed: &mut Result<b
     view.into_flash()
 }
 
-/// Adds to a report what a repair would put right in the database of an image, of which `survey_image` tells that a cut can
+/// Adds to a report what a repair would repair in the database of an image, of which `survey_image` tells that a cut can
 /// have left it. Nothing is written, where it fails too.
 pub fn foretell_image<F: Flash>(
     flash: &mut F,

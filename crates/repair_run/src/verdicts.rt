@@ -58,7 +58,7 @@ fn write_verdict<K: Sink>(
     }
 }
 
-// The lines of a report, and that the image is to be put right.
+// The lines of a report, and that the image must be repaired.
 #[tactic(auto, using(reply_text::proofs::Pieces::less_front, reply_text::proofs::Pieces::less_behind))]
 fn write_foretold<K: Sink>(out: &mut K, report: &Report) -> Result<(), Failed>
     ensures written { let all = report_text report.now.mended ++ line (codes "to be repaired") in

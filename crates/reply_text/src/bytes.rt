@@ -69,7 +69,7 @@ pub fn write_count<K: Sink>(out: &mut K, words: &[u8], count: u64) -> Result<(),
     write_number(out, count)
 }
 
-/// Appends a line of words and a number, and others behind. `Failed` leaves a proper prefix of it there.
+/// Appends a line of words and a number, and others after. `Failed` leaves a proper prefix of it there.
 pub fn write_line_of_counts<K: Sink>(
     out: &mut K,
     words: &[u8],

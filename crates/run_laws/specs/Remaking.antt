@@ -1,4 +1,4 @@
--- What the script of a database leaves behind, on an image without relations.
+-- What the script of a database leaves, on an image without relations.
 use Rattle.std.specs.Prelude.{◌≡◌, ℕ, ◌*◌, [], flat_map, replicate, Some}
 use Rattle.std.specs.Io.KnownBytes.{append_known}
 use Rattle.run_words.specs.declared.words.Form.TheVariants.{Dump, Run}

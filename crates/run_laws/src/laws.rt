@@ -57,7 +57,7 @@ pub fn dumps_are_made_again()
     sound_files_are_a_sound_database();
 }
 
-/// A script whose commands insert and read, and bring at most so many rows to each relation as were planned
+/// A script whose commands insert and read, and bring at most this many rows to each relation as were planned
 /// for by its name, finds enough space on a sound image with the sectors that were planned. So by the
 /// contract of `top` its run does not end with status 3.
 pub fn planned_runs_find_space()
@@ -72,7 +72,7 @@ pub fn planned_runs_find_space()
 }
 
 /// And so does a script that takes rows out again: one of INSERT, REMOVE FROM, PACK and what reads, in which at any time
-/// each relation has at most so many slots more than now as were planned for by its name; or one without hash trees, in
+/// each relation has at most this many slots more than now as were planned for by its name; or one without hash trees, in
 /// which relations may come and go, and at any time none is larger than its slot was planned for.
 pub fn planned_rings_find_space()
     ensures rows { (read : List ℕ → Result Command Refusal) → IsReader read

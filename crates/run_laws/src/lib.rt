@@ -1,4 +1,4 @@
-//! Laws on what a run leaves behind: what the statuses of `top` of `antelope_run` come to.
+//! Laws on what a run leaves: what the statuses of `top` of `antelope_run` come to.
 #![tactic(auto)]
 
 mod laws;

@@ -6,7 +6,7 @@ pub record Line (E : Type 0) : Type 0 where
   pub all : List ℕ → List E
   pub whole : List ℕ → List E
 
--- the same, as the bytes come: what is begun before the first byte, and behind further bytes; the entries that further bytes
+-- the same, as the bytes come: what is begun before the first byte, and after further bytes; the entries that further bytes
 -- end; and the entry that is left where the input ends
 pub record Cut (E Q : Type 0) : Type 0 where
   pub start : Q

@@ -1,4 +1,4 @@
--- What a run leaves behind, status by status.
+-- What a run leaves, status by status.
 use Rattle.std.specs.Prelude.{◌≡◌, ◌⊎◌, ℕ, ◌+◌, ◌/◌, ◌<◌, ◌≤◌, false, List, [], ◌∷◌, ◌++◌, length, codes, decimal, Option, Some}
 use Rattle.std.specs.Io.KnownBytes.{append_known, prepend_known, IsAtEnd}
 use Rattle.std.specs.List.{AllByRecursion}
@@ -88,7 +88,7 @@ module _ {E : Type 0} (m : Machine E) where
     pub stops : StopsAt entries front n new.image
     pub written : new.held ≡ append_known old.held (m.written front ++ m.refused stops.entry n)
 
-  -- status 5: the same, but what is written behind `least front` ends before it is all written
+  -- status 5: the same, but what is written after `least front` ends before it is all written
   pub record SpaceUnsaid (least : List E → List ℕ) (entries : List E) (old new : World) : Type 0 where
     pub front : List E
     pub n : ℕ

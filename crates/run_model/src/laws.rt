@@ -1,4 +1,4 @@
-//! Laws on what a run leaves behind. Each function does nothing: its contract is the law.
+//! Laws on what a run leaves. Each function does nothing: its contract is the law.
 
 #![tactic(auto)]
 

@@ -1,4 +1,4 @@
-//! What a run leaves behind, status by status: the definitions that the contract of the top call is made of, and laws on them.
+//! What a run leaves, status by status: the definitions that the contract of the top call is made of, and laws on them.
 #![tactic(auto)]
 
 mod laws;

@@ -13,7 +13,7 @@ pub struct Case {
     pub replies: &'static [Part],
 }
 
-/// What a test shows is so.
+/// Fails a test unless this holds.
 pub fn show(holds: bool, shows: &'static str) -> Result<(), Fail> {
     if holds { Ok(()) } else { Err(Fail::new(shows)) }
 }

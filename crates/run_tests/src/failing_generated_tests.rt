@@ -11,7 +11,7 @@ const WORDS: &[&str] = &["gen", "image", "1", "64"];
 
 const LINE: &[u8] = b"commands 64 ok 63 rows 1 refused 0\n";
 
-// Whether so many generated commands over an erased image are counted by just this line.
+// Whether this many generated commands over an erased image are counted by just this line.
 fn counts(alloc: Global, commands: &str, line: &[u8]) -> bool {
     let mut image = erased(alloc, FEW);
     let words = &["gen", "image", "1", commands];

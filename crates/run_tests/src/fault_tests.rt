@@ -21,7 +21,7 @@ fn ends(
     call_failing(alloc, RUN, script, faults, image).is(status, text)
 }
 
-// Whether two words, which are of no form, leave an image.
+// Whether two wrong arguments leave an image.
 fn two_words_leave_all(alloc: Global) -> bool {
     let mut image = erased(alloc, FEW);
     let ended = call_failing(alloc, &["run", "a"], MAKES, NO_FAULTS, image.as_mut_slice());
@@ -55,7 +55,7 @@ fn the_first_call_of_each_may_fail(rt: HostRuntime) -> Result<(), Fail> {
     show(calls && reply, "each first call fails")
 }
 
-// Whether a script ends with this status behind its first row, which is left.
+// Whether a script ends with this status after its first row, which is left.
 fn leaves_one_row(alloc: Global, script: &[u8], faults: Faults, status: u8) -> bool {
     let mut image = erased(alloc, FEW);
     let all = image.as_mut_slice();
@@ -76,7 +76,7 @@ fn of_bytes(alloc: Global, byte: u8, bytes: usize) -> Result<Vec<u8>, AllocError
     vec![in alloc; byte; bytes]
 }
 
-// A script of so many bytes, which begins with these and is filled up with another.
+// A script of this many bytes, which begins with these and is filled up with another.
 fn filled(alloc: Global, front: &[u8], byte: u8, bytes: usize) -> Vec<u8> {
     match of_bytes(alloc, byte, bytes) {
         Ok(mut script) => {
@@ -87,7 +87,7 @@ fn filled(alloc: Global, front: &[u8], byte: u8, bytes: usize) -> Vec<u8> {
     }
 }
 
-// Whether a script of so many spaces ends with this status and no reply, and leaves an erased image.
+// Whether a script of this many spaces ends with this status and no reply, and leaves an erased image.
 fn spaces_end_with(alloc: Global, bytes: usize, status: u8) -> bool {
     let mut image = erased(alloc, FEW);
     let script = filled(alloc, b"", b' ', bytes);

@@ -48,7 +48,7 @@ pub fn sink_fails(at: u64) -> Faults {
     }
 }
 
-/// The sink has room for so many bytes.
+/// The sink has room for this many bytes.
 pub fn with_room(room: usize) -> Faults {
     Faults { room, ..NO_FAULTS }
 }

@@ -48,12 +48,12 @@ pub fn has_contents(alloc: Global, image: &mut [u8], name: &str, bytes: &[u8]) -
     contents(alloc, image, name).as_slice() == bytes
 }
 
-/// Whether the file of a name has so many bytes on an image.
+/// Whether the file of a name has this many bytes on an image.
 pub fn has_size(alloc: Global, image: &mut [u8], name: &str, size: usize) -> bool {
     contents(alloc, image, name).len() == size
 }
 
-/// The number of two bytes at a place, 0 behind the end.
+/// The number of two bytes at a place, 0 after the end.
 pub fn number_at(bytes: &[u8], at: usize) -> u16 {
     let Some(low) = bytes.get(at) else {
         return 0;
@@ -73,7 +73,7 @@ pub fn begins(page: &[u8], flags: u8, name: &str) -> bool {
     page.get(9).copied() == Some(flags) && named.starts_with(name.as_bytes()) && behind == Some(0)
 }
 
-/// The page of the active file of a name, where it has a log of which so many records are in use.
+/// The page of the active file of a name, where it has a log of which this many records are in use.
 pub fn page_with_log(image: &[u8], name: &str, used: usize) -> Option<usize> {
     let mut at = 0usize;
     for page in image.chunks(256) {

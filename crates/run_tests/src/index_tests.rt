@@ -68,7 +68,7 @@ fn rows_are_found_by_their_keys(rt: HostRuntime) -> Result<(), Fail> {
 }
 
 // Where the numbers of the path of key 7 stand in a tree, and these numbers: those of five nodes, and of
-// three buckets more behind the last one's. Each has two bytes; bucket b stands at 683 + 195 * b.
+// three buckets more after the last one's. Each has two bytes; bucket b stands at 683 + 195 * b.
 const PATH: &[(usize, u16)] = &[
     (0, 1),
     (8, 2),

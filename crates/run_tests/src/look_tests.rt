@@ -1,4 +1,4 @@
-//! What is told of what stands on an image.
+//! What `look` writes about an image.
 
 use crate::cases::show;
 use crate::running::{MANY, ask, copied, erased};

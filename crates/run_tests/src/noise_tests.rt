@@ -50,7 +50,7 @@ fn status_of(alloc: Global, script: &[u8], seed: u32) -> u8 {
     }
 }
 
-// What so many seeds come to: whether a script was carried out to its end, and one refused, and the first
+// What this many seeds come to: whether a script was carried out to its end, and one refused, and the first
 // seed that is wrong.
 #[derive(Clone, Copy)]
 struct Seeds {

@@ -15,7 +15,7 @@ const CASES: &[Case] = &[
     ("no image 14 1\n", &[(6, 11, b'8')]),
     // The mark of a version 3.
     ("no image 15 0\n", &[(5, 224, 3)]),
-    // A byte behind the mark.
+    // A byte after the mark.
     ("no image 15 0\n", &[(5, 232, 1)]),
     // Both attributes have the name k.
     ("no image 16 0\n", &[(23, 130, b'k')]),
@@ -33,11 +33,11 @@ const CASES: &[Case] = &[
     ("no image 17 1\n", &[(5, 160, 1), (5, 168, 3)]),
     // A MAXHEAP without its file.
     ("no image 18 8\n", &[(5, 160, 2)]),
-    // A byte behind the last row.
+    // A byte after the last row.
     ("no image 19 0\n", &[(6, 48, 1)]),
     // A quote in a text.
     ("no image 19 0\n", &[(6, 36, b'\'')]),
-    // A letter behind the zeros of a text.
+    // A letter after the zeros of a text.
     ("no image 19 0\n", &[(6, 45, b'a')]),
 ];
 
@@ -46,7 +46,7 @@ fn broken_rules_are_told_with_their_places(rt: HostRuntime) -> Result<(), Fail> 
     all_are_refused(rt.alloc(), CASES)
 }
 
-// Whether an image is refused by this line that has one more file, behind the two rows.
+// Whether an image is refused by this line that has one more file, after the two rows.
 fn one_file_more(alloc: Global, name: &[u8], line: &str) -> bool {
     let mut image = two_rows(alloc);
     put_file(image.as_mut_slice(), 38, 16, 0, name);
@@ -95,7 +95,7 @@ fn rows_of_a_relation_without_attributes_are_told(rt: HostRuntime) -> Result<(),
     expect_refused(rt.alloc(), image.as_slice(), &[(6, 32, 1)], line)
 }
 
-// An image of version 1 with so many rows of the number 0.
+// An image of version 1 with this many rows of the number 0.
 fn zeros(alloc: Global, rows: u16) -> Vec<u8> {
     let mut image = version_1(alloc, 1, 256);
     let all = image.as_mut_slice();

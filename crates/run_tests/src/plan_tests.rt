@@ -15,7 +15,7 @@ fn answers(alloc: Global, image: &mut [u8], words: &[&str], line: &[u8]) -> bool
     ended.is(0, line) && &*image == before.as_slice()
 }
 
-// Whether so many rows are planned for by just this line, which leaves the image.
+// Whether this many rows are planned for by just this line, which leaves the image.
 fn plans(alloc: Global, image: &mut [u8], rows: &str, line: &[u8]) -> bool {
     answers(alloc, image, &["plan", "image", rows], line)
 }
@@ -30,7 +30,7 @@ fn an_erased_image_needs_five_sectors(rt: HostRuntime) -> Result<(), Fail> {
     )
 }
 
-// Whether no rows and then so many are planned for by just these lines.
+// Whether no rows and then this many are planned for by just these lines.
 fn plans_both(alloc: Global, image: &mut [u8], now: &[u8], rows: &str, then: &[u8]) -> bool {
     plans(alloc, image, "0", now) && plans(alloc, image, rows, then)
 }
@@ -109,7 +109,7 @@ fn a_plan_for_no_relation_is_refused(rt: HostRuntime) -> Result<(), Fail> {
     )
 }
 
-// Whether a plan for such words is of no form.
+// Whether a plan for such arguments is refused.
 fn is_of_no_form(alloc: Global, image: &mut [u8], rows: &[&str]) -> bool {
     let mut words = Vec::new(alloc);
     if words.extend_from_slice(&["plan", "image"]).is_err() {

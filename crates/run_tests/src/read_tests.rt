@@ -7,7 +7,7 @@ use std::alloc::Global;
 use std::test::Fail;
 use test_texts::Part;
 
-// How often a run reads that makes a sensor's day over an erased image, and asks so many times after the
+// How often a run reads that makes a sensor's day over an erased image, and asks this many times after the
 // same ten minutes, where it has status 0 and ends with their replies.
 fn reads(alloc: Global, index: &str, times: u16) -> Option<u64> {
     let script = day(alloc, index, times);

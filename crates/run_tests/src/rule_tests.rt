@@ -49,7 +49,7 @@ fn rules_of_the_database_are_told_with_their_places(rt: HostRuntime) -> Result<(
     all_are_refused(rt.alloc(), OF_DATABASE)
 }
 
-// An image of so many files, each of one page.
+// An image of this many files, each of one page.
 fn many_files(alloc: Global, files: u16) -> Vec<u8> {
     let mut image = erased(alloc, MANY);
     for page in 0..files {

@@ -58,12 +58,12 @@ pub fn none_is_wrong(wrong: Option<u64>) -> Result<(), Fail> {
     }
 }
 
-/// So many zeros.
+/// This many zeros.
 pub fn of_zeros(alloc: Global, bytes: usize) -> Result<Vec<u8>, AllocError> {
     vec![in alloc; 0u8; bytes]
 }
 
-/// An erased image of so many sectors.
+/// An erased image of this many sectors.
 pub fn erased(alloc: Global, sectors: usize) -> Vec<u8> {
     match of_zeros(alloc, sectors.saturating_mul(SECTOR)) {
         Ok(image) => image,

@@ -57,7 +57,7 @@ pub const TWO_ROWS: &[Part] = &[
     Part::Once("INSERT (5, 'abc') INTO s; INSERT (-1, '') INTO s;"),
 ];
 
-/// What a script of so many commands leaves of an erased image, all of which reply `ok`; no image where
+/// What a script of this many commands leaves of an erased image, all of which reply `ok`; no image where
 /// they do not.
 pub fn made_by(alloc: Global, script: &[u8], commands: u16) -> Vec<u8> {
     let mut image = erased(alloc, MANY);
@@ -69,7 +69,7 @@ pub fn made_by(alloc: Global, script: &[u8], commands: u16) -> Vec<u8> {
     }
 }
 
-/// What a script of some parts leaves, which has so many commands.
+/// What a script of some parts leaves, which has this many commands.
 pub fn made_of(alloc: Global, script: &[Part], commands: u16) -> Vec<u8> {
     made_by(alloc, text(alloc, script).as_slice(), commands)
 }

@@ -11,7 +11,7 @@ use test_texts::Part;
 
 const COUNT: &[u8] = b"SELECT COUNT(v) FROM n;";
 
-// Whether an image has the rows of all commands up to the one behind so many replies.
+// Whether an image has the rows of all commands up to the one after this many replies.
 fn has_rows_after(alloc: Global, replies: u16, image: &mut [u8]) -> bool {
     let commands = replies.saturating_add(1);
     if commands == 1 {

@@ -13,7 +13,7 @@ pub type Byte = (u16, u8, u8);
 /// two rows.
 pub type Case = (&'static str, &'static [Byte]);
 
-// Lines `ok`, as many as there are in a text of so many bytes.
+// Lines `ok`, as many as there are in a text of this many bytes.
 fn all_ok(alloc: Global, bytes: usize) -> Vec<u8> {
     text(alloc, &[Part::Often("ok\n", (bytes / 3 % 65_536) as u16)])
 }
@@ -118,7 +118,7 @@ pub fn all_are_refused(alloc: Global, cases: &[Case]) -> Result<(), Fail> {
 }
 
 /// A catalog of version 1 in pages 0 to 5, with the relation n whose one attribute v has the domain of
-/// this byte, and its file in so many pages from page 6 on.
+/// this byte, and its file in this many pages from page 6 on.
 pub fn version_1(alloc: Global, domain: u8, pages: u16) -> Vec<u8> {
     let mut image = erased(alloc, MANY);
     let all = image.as_mut_slice();

@@ -76,7 +76,7 @@ const FEW: &[Part] = &[
 #[test]
 fn another_key_in_a_tree_is_told(rt: HostRuntime) -> Result<(), Fail> {
     let image = made_of(rt.alloc(), MANY);
-    // Eight buckets of 195 bytes behind 683 bytes; a pair is its key and its slot + 1.
+    // Eight buckets of 195 bytes after 683 bytes; a pair is its key and its slot + 1.
     show(
         breaks(rt.alloc(), image.as_slice(), &[(683, 6)]),
         "another key",

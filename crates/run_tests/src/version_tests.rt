@@ -35,8 +35,8 @@ fn put_file(image: &mut [u8], page: usize, pages: u16, kind: u8, name: &str) {
     put(image, at.saturating_add(10), name.as_bytes());
 }
 
-// An image of version 1 with the relation n of one INT attribute v, which has so many rows of the number
-// 5, in a file of so many pages.
+// An image of version 1 with the relation n of one INT attribute v, which has this many rows of the number
+// 5, in a file of this many pages.
 fn version_1(alloc: Global, rows: u16, pages: u16) -> Vec<u8> {
     let mut image = erased(alloc, MANY);
     let all = image.as_mut_slice();

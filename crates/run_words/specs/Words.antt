@@ -12,7 +12,7 @@ use Rattle.space_plan.specs.declared.further.NamedRows.{NamedRows}
 use Rattle.run_words.specs.declared.words.Form.{Form}
 use Rattle.run_words.specs.declared.words.Form.TheVariants.{Run, Gen, Plan, Serve, Dump, Look}
 
--- the number that digits behind a number make of it
+-- the number that digits after a number make of it
 abbrev pub value_from : ℕ → List ℕ → ℕ
 value_from n [] = n
 value_from n (b ∷ bs) = value_from (10 * n + (b - 48)) bs
@@ -21,7 +21,7 @@ value_from n (b ∷ bs) = value_from (10 * n + (b - 48)) bs
 abbrev pub at_most : ℕ → ℕ → Option ℕ
 at_most most n = if nat_le n most then Some n else None
 
--- 1 to so many decimal digits with a value in a range
+-- 1 to this many decimal digits with a value in a range
 abbrev pub number_word : (digits least most : ℕ) → List ℕ → Option ℕ
 number_word digits least most word =
     if nat_le 1 (length word) && nat_le (length word) digits && list_all is_ascii_digit word
@@ -49,7 +49,7 @@ rows_alone _ = None
 abbrev pub is_no_sign : ℕ → Bool
 is_no_sign b = not (b == 61)
 
--- so many rows for a name, by what stands behind it: `=` and digits
+-- this many rows for a name, by what stands after it: `=` and digits
 abbrev pub rows_behind : List ℕ → List ℕ → Option NamedRows
 rows_behind name [] = None
 rows_behind name (sign ∷ digits) =
@@ -81,7 +81,7 @@ named_by words =
 abbrev pub planned_by : {A : Type 0} → List (String A) → Option Form
 planned_by words = elim (rows_alone words) [ Some n ↦ Some (Plan (Each n)) | None ↦ named_by words ]
 
--- ---- behind the name comes the image, and then none, one or two words, or those of a plan
+-- ---- after the name comes the image, and then none, one or two words, or those of a plan
 
 abbrev pub alone : List ℕ → Option Form
 alone name =

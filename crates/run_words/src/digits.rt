@@ -7,7 +7,7 @@ ghost use Rattle.std.specs.Char.{is_ascii_digit};
 ghost use Rattle.std.specs.List.{list_all};
 ghost use Rattle.run_words.specs.Words.{at_most, number_word, value_from};
 
-/// A number of 1 to so many digits, in this range.
+/// A number of 1 to this many digits, in this range.
 pub fn number(word: &[u8], digits: usize, least: u32, most: u32) -> Option<u32>
     ensures number { result ≡ number_word digits least most word.now }
     ensures within { IfSome result (λ n. n ≤ most) }

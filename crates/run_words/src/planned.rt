@@ -11,7 +11,7 @@ use crate::words::Form;
 use db_model::{Few, Ident};
 use space_plan::{FurtherRows, NamedRows};
 
-/// So many rows in each relation, or in those that are named.
+/// This many rows in each relation, or in those that are named.
 pub fn planned(words: &[String]) -> Option<Form>
     ensures form { result ≡ planned_by words.now }
     ensures commands { IfSome result (λ form. HasFewCommands form) }
@@ -41,7 +41,7 @@ fn rows_word(word: &[u8]) -> Option<u16>
     Some(rows as u16)
 }
 
-// So many rows in each relation that is named.
+// This many rows in each relation that is named.
 fn named(words: &[String]) -> Option<Form>
     ensures form { result ≡ named_by words.now }
     ensures commands { IfSome result (λ form. HasFewCommands form) }

@@ -9,7 +9,7 @@ use crate::digits::number;
 use crate::planned::planned;
 use crate::words::Form;
 
-/// What the words behind the program's name ask for. `None` comes exactly where they are none of the forms.
+/// What the words after the program's name ask for. `None` comes exactly where they are none of the forms.
 pub fn form(words: &[String]) -> Option<Form>
     ensures form { result ≡ form_of words.now }
     ensures commands { IfSome result (λ form. HasFewCommands form) }

@@ -9,7 +9,7 @@ abbrev pub front_bytes : Option ℕ → List ℕ
 front_bytes None = []
 front_bytes (Some byte) = byte ∷ []
 
--- what stands in the sink behind, and the byte
+-- what stands in the sink below, and the byte
 abbrev pub front_held : Option (List ℕ) → Option ℕ → Option (List ℕ)
 front_held held front = append_known held (front_bytes front)
 
@@ -18,7 +18,7 @@ abbrev pub front_faults : Bool → ℕ
 front_faults false = 0
 front_faults true = 18446744073709551615
 
--- the sink behind, the byte, and whether a call failed
+-- the sink below, the byte, and whether a call failed
 pub record Fronted : Type 0 where
   pub held : Option (List ℕ)
   pub faults : ℕ
@@ -28,7 +28,7 @@ pub record Fronted : Type 0 where
 abbrev pub fronted : Option (List ℕ) → ℕ → Option ℕ → Bool → Fronted
 fronted held faults front failed = record { held = held; faults = faults; front = front; failed = failed }
 
--- what it holds is seen behind the byte
+-- what it holds is seen after the byte
 abbrev pub seen : Fronted → Option (List ℕ)
 seen f = front_held f.held f.front
 

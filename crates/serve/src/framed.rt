@@ -31,11 +31,11 @@ impl Begun for Brand {
 /// byte from the start, and it has its own count of faults.
 #[derive(Drop)]
 pub struct Framed<'a, K: Sink, B: Begun> {
-    /// The sink behind it.
+    /// The sink below it.
     pub out: &'a mut K,
     /// The byte, until it has gone out.
     pub front: Option<u8>,
-    /// Whether a call of the sink behind it failed.
+    /// Whether a call of the sink below it failed.
     pub failed: bool,
     /// The time from which on it stands there.
     pub begun: PhantomData<B>,

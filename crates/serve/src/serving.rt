@@ -145,7 +145,7 @@ fn take_byte<V: Files, K: Sink>(
     Ok(())
 }
 
-// Takes the end of a line: bytes behind the last END are no frame.
+// Takes the end of a line: bytes after the last END are no frame.
 fn take_end<V: Files, K: Sink>(
     session: &mut Session<V>,
     decoder: &Decoder,

@@ -1,4 +1,4 @@
--- What a client fetches behind its OPEN, whatever other frames stand between.
+-- What a client fetches after its OPEN, whatever other frames stand between.
 use Rattle.std.specs.Prelude.{◌≡◌, ℕ, ◌<◌, pos, Bool, false, not, ◌&&◌, ◌==◌, IsTrue, List, [], ◌∷◌, length, take, drop, Some, Result, Ok, Err, if◌then◌else◌, slice_get}
 use Rattle.std.specs.Ordering.{int_eq}
 use Rattle.std.specs.List.{list_any}

@@ -12,7 +12,7 @@ pub data Frame : Type 0 where
   Long : ℕ → Frame
   -- a client, and the bytes of its command
   Asked : ℕ → List ℕ → Frame
-  -- no END comes behind it
+  -- no END comes after it
   Unfinished : Frame
 
 abbrev pub is_end : ℕ → Bool
@@ -20,7 +20,7 @@ is_end b = b == 192
 
 -- ---- one part
 
--- the byte behind an ESC, and what is decoded behind it
+-- the byte after an ESC, and what is decoded after it
 abbrev pub escaped : ℕ → Option (List ℕ) → Option (List ℕ)
 escaped b rest =
     if b == 220 then option_map (λ bytes. 192 ∷ bytes) rest else
@@ -49,12 +49,12 @@ frame_of (b ∷ bytes) = frame_from (decoded (b ∷ bytes)) ∷ []
 
 -- ---- all parts
 
--- what stands behind the last END
+-- what stands after the last END
 abbrev pub unended_frame : List ℕ → List Frame
 unended_frame [] = []
 unended_frame (b ∷ bytes) = Unfinished ∷ []
 
--- of parts the last has no END behind it
+-- of parts the last has no END after it
 abbrev pub frames_in : List (List ℕ) → List Frame
 frames_in [] = []
 frames_in (part ∷ []) = unended_frame part
@@ -74,7 +74,7 @@ finished_frames (Asked client command ∷ rest) = Asked client command ∷ finis
 
 -- ---- bytes that come one by one
 
--- the part that is begun once these bytes came behind a part so far
+-- the part that is begun once these bytes came after a part so far
 abbrev pub part_behind : List ℕ → List ℕ → List ℕ
 part_behind part [] = part
 part_behind part (b ∷ bytes) = if is_end b then part_behind [] bytes else part_behind (part ++ b ∷ []) bytes

@@ -49,7 +49,7 @@ pub fn clients_fetch_their_answers()
 {}
 
 /// Cut at each END, what is served from a sound database on is one part for each frame, whatever comes
-/// behind, and nothing in a part is escaped.
+/// after, and nothing in a part is escaped.
 #[tactic(auto, using(crate::proofs::Parts::clients_of_frames, crate::proofs::Parts::served_parts, crate::proofs::Parts::parts_plain, crate::proofs::Parts::refused_part))]
 pub fn each_reply_is_one_part()
     ensures clients { (bytes : List ℕ) → AllByRecursion IsOfClient (frames bytes) }

@@ -18,7 +18,7 @@ use db_model::Tuple;
 use index_set::HashTables;
 use session_model::{Open, OpenJoin, OpenSelect, project, project_pair};
 
-// The next row of a SELECT, which rests afterwards. Behind its last slot it reads nothing.
+// The next row of a SELECT, which rests afterwards. After its last slot it reads nothing.
 fn fetch_select<V: Files>(
     files: &mut V,
     tables: &HashTables,

@@ -20,7 +20,7 @@ use catalog::{IndexEntry, clear_index, put_index};
 use db_model::IndexKind;
 use session_model::{Held, Indexed, prepare_catalog};
 
-/// Makes room for a change of an index slot. No byte changes, and what all is kept in stays where no
+/// Makes room for a change of an index slot. No byte changes, and the storage stays where no
 /// extent is asked for.
 pub fn prepare_slot<V: Files>(files: &mut V, cat: FileId, slot: IndexId) -> Result<(), FileError>
     requires idle { (V.state files.old).draft ≡ None }

@@ -42,7 +42,7 @@ pub fn free_table(indexes: &[Option<Indexed>]) -> Option<TableId>
     None
 }
 
-/// Whether a table has no room for the keys of so many slots.
+/// Whether a table has no room for the keys of this many slots.
 pub fn is_crowded(slots: u16) -> bool
     ensures crowded { IsTrue result → 2048 < slots }
     ensures fits { IsFalse result → slots ≤ 2048 }

@@ -59,7 +59,7 @@ pub record Carries {V : Type 0} (v : FilesOf V) (command : Command) (old new : B
   pub wants : Tells v old → OnNoSpace result (λ need.
       WantsFew (v.asks new.files) (v.state new.files).files (database v new) command need)
   pub lacks : OnNoSpace result (λ need. v.lacks new.files need)
-  -- a command that wants no extent takes none
+  -- a command that needs no extent takes none
   pub spares : Tells v old → WantsNone (v.asks old.files) (v.state old.files).files (database v old) command
       → OnDone result (TakesNoPage v.is_free (v.state old.files).store (v.state new.files).store)
   -- where failures are cuts, the database before or after it, or, of a removal, one with some of the rows removed

@@ -12,7 +12,7 @@ use Rattle.space_model.specs.Wants.{Wants}
 abbrev pub room_in : Table → ℕ → ℤ → ℕ × ℕ
 room_in files slot key = ((room_of (bytes_named (tree_file slot) files) key).overwrites, (room_of (bytes_named (tree_file slot) files) key).bytes)
 
--- a command asks for an extent of so many pages, where files ask by their ids
+-- a command asks for an extent of this many pages, where files ask by their ids
 abbrev pub WantsOver : (ℕ → ℕ → ℕ → ℕ → Type 0) → Table → Database → Command → ℕ → Type 0
 WantsOver asks files db command need = Wants (size_in files) (asks_in asks files) (room_in files) db command need
 

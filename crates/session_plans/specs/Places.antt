@@ -39,7 +39,7 @@ items_of attributes [] = Some []
 items_of attributes (item ∷ list) =
     option_and_then (λ place. option_map (λ items. (item.0, place) ∷ items) (items_of attributes list)) (place_of item.1 attributes)
 
--- what is refused first: the types of a list come before those of a condition, and behind all names
+-- what is refused first: the types of a list come before those of a condition, and after all names
 abbrev pub first_of : Option ℕ → Refusal → Refusal
 first_of (Some nth) (no.IllTyped m) = no.IllTyped nth
 first_of _ refusal = refusal

@@ -114,7 +114,7 @@ fn aggregates(agg: Agg, domain: &Domain) -> bool
     }
 }
 
-// The aggregates of the list come before the comparisons of the condition, and behind all names.
+// The aggregates of the list come before the comparisons of the condition, and after all names.
 fn first_of(unsuited: Option<u8>, refusal: Refusal) -> Refusal
     ensures { result ≡ all.first_of unsuited refusal }
 {

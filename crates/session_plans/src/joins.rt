@@ -89,7 +89,7 @@ fn side_of(name: &Ident, left: &[Attribute], right: &[Attribute]) -> Option<Side
 }
 
 // Where the attributes of these names are, or the number of the first that is none. The ON name is
-// the first, and these come behind it.
+// the first, and these come after it.
 fn sides_of(names: &[Ident], left: &[Attribute], right: &[Attribute]) -> Result<Few<Side, 8>, u8>
     requires few { length names.now ≤ 8 }
     requires left { length left.now ≤ 8 }

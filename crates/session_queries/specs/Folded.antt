@@ -1,4 +1,4 @@
--- The folds of a list of aggregates, one for each of its items. One that wants no other pass is closed, and takes no more.
+-- The folds of a list of aggregates, one for each of its items. One that needs no other pass is closed, and takes no more.
 use Rattle.std.specs.Prelude.{◌≡◌, ◌≢◌, ◌+◌, ◌<◌, ◌≤◌, ℕ, Bool, true, false, List, [], ◌∷◌, ◌++◌, length, get_or, None, IsFalse, IsTrue}
 use Rattle.db_model.specs.declared.commands.Agg.{Agg}
 use Rattle.db_model.specs.declared.commands.Agg.TheVariants.{Count, Median}
@@ -23,7 +23,7 @@ tally_at tallies i = get_or tallies i no_tally
 
 -- ---- one tally
 
--- after so many passes: an open one has had them all and wants another, and a closed one wants none
+-- after this many passes: an open one has had them all and needs another, and a closed one needs none
 pub record StandsAfterPasses (passes : ℕ) (tally : Tally) : Type 0 where
   pub wants : IsTrue tally.is_open → IsTrue (wants_pass tally.fold)
   pub passed : IsTrue tally.is_open → tally.fold.passes ≡ passes
@@ -75,7 +75,7 @@ PushedFew n items tallies = (i : ℕ) → i < length items → IsTrue (tally_at 
 abbrev pub AreClosed : List (Agg × ℕ) → List Tally → Type 0
 AreClosed items tallies = (i : ℕ) → i < length items → IsFalse (tally_at tallies i).is_open
 
--- none wants another pass
+-- none needs another pass
 abbrev pub AreDone : List (Agg × ℕ) → List Tally → Type 0
 AreDone items tallies = (i : ℕ) → i < length items → IsFalse (wants_pass (tally_at tallies i).fold)
 

@@ -37,7 +37,7 @@ WroteNext (Ok false) old new before now = (old ≡ []) × (now ≡ before)
 WroteNext (Err Sink) old new before now = WroteNoMore old before now
 WroteNext (Err Flash) old new before now = now ≡ before
 
--- all the rows were written, so many of them
+-- all the rows were written, this many of them
 pub record WroteAll (all : List (List Value)) (before now : Option (List ℕ)) (count : ℕ) : Type 0 where
   pub counted : count ≡ length all
   pub written : now ≡ append_known before (flat_map row_text all)

@@ -73,7 +73,7 @@ fn either(a: bool, b: bool) -> bool
     a || b
 }
 
-/// What the aggregates come to, where none wants another pass.
+/// What the aggregates come to, where none needs another pass.
 pub fn answers_of(items: &[(Agg, u8)], tallies: &[Tally]) -> Few<Option<i64>, 8>
     requires few { length items.now ≤ 8 }
     requires many { length items.now ≤ length tallies.now }

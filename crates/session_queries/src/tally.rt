@@ -1,4 +1,4 @@
-//! One aggregate's fold, and whether it wants another pass.
+//! One aggregate's fold, and whether it needs another pass.
 
 #![tactic(auto)]
 
@@ -37,7 +37,7 @@ pub fn push(tally: &mut Tally, value: &Value)
     }
 }
 
-/// Ends a pass, and closes it where it wants no other.
+/// Ends a pass, and closes it where it needs no other.
 pub fn end_pass(tally: &mut Tally)
     ensures { EndsPass tally.old tally.new }
 {

@@ -94,7 +94,7 @@ refuse_removal db name slot = do
 
 -- ---- a relation that grows
 
--- one attribute comes behind the others, and the row stays short
+-- one attribute comes after the others, and the row stays short
 pub record IsLonger (was is : Tuples) : Type 0 where
   pub attribute : Attribute
   pub file : is.file ≡ was.file

@@ -34,7 +34,7 @@ use index_set::HashTables;
 use session_model::{Answer, Base, Held, Open, prepare_catalog};
 use tuple_file::Tuples;
 
-/// Puts an attribute behind the others of a relation that has no slots.
+/// Puts an attribute after the others of a relation that has no slots.
 pub fn create_attribute<V: Files>(
     base: &mut Base<V>,
     name: &Ident,
@@ -98,7 +98,7 @@ fn grown_at<V: Files>(
     }
 }
 
-// A relation of so many slots with one attribute more, or why there is to be none.
+// A relation of this many slots with one attribute more, or why there is to be none.
 fn with_attribute(
     tuples: &Tuples,
     slots: u16,

@@ -32,7 +32,7 @@ pub record RunsOn (old new : State) (after : Tables) (held : Held) (opens : List
 
 -- ---- one relation and its indexes
 
--- its rows and indexes are as before, or a row came behind and its keys into each index
+-- its rows and indexes are as before, or a row came after and its keys into each index
 pub record RelationGrows (old new : State) (before after : Tables) (t : Tuples) (infos : List IndexInfo) : Type 0 where
   pub holds : HoldsRows new t
   pub more : slots old.files t ≤ slots new.files t
@@ -43,7 +43,7 @@ pub record RelationGrows (old new : State) (before after : Tables) (t : Tuples) 
   pub others : SparesOthers old new (StaysAt t.file infos)
   pub tables : KeepsTables before after infos
 
--- a row of these values came behind, and its keys into each index
+-- a row of these values came after, and its keys into each index
 pub record AddsRow (old new : State) (before after : Tables) (t : Tuples) (infos : List IndexInfo) (values : List Value) (slot : ℕ) : Type 0 where
   pub row : IsTrue old.tells → rows new.files t ≡ rows old.files t ++ record { tuple = values; live = true } ∷ []
   pub count : slots new.files t ≡ slot + 1

@@ -23,7 +23,7 @@ use Rattle.session_rows.specs.Marking.{marked}
 
 -- ---- a row that is added
 
--- the rows are as before, with less than one more behind them, and all other files have their bytes
+-- the rows are as before, with less than one more after them, and all other files have their bytes
 pub record KeepsRows (old after : State) (t : Tuples) : Type 0 where
   pub same : rows after.files t ≡ rows old.files t
   pub part : HasRowInPart old after t
@@ -35,7 +35,7 @@ pub record HasRowsAndKeys (old after : State) (tables : Tables) (t : Tuples) (in
   pub some : 0 < length infos → 0 < slots after.files t
   pub names : AreComplete old tables (rows old.files t) infos → Follows → AllNameFew after (slots after.files t) infos
 
--- the rows are as before, or one of these values stands behind them; no file has changed but the relation's and its trees
+-- the rows are as before, or one of these values stands after them; no file has changed but the relation's and its trees
 pub record MayAddRow (old after : State) (tables : Tables) (t : Tuples) (infos : List IndexInfo) (values : List Value) : Type 0 where
   pub others : SparesOthers old after (StaysAt t.file infos)
   pub left : KeepsRows old after t

@@ -19,7 +19,7 @@ marked (slot ∷ slots) rows = marked slots (set rows slot (dead (get_or rows sl
 abbrev pub AreBelow : ℕ → List ℕ → Type 0
 AreBelow n slots = (i : ℕ) → i < length slots → get_or slots i 0 < n
 
--- so many slots were selected, and these are the first of them
+-- this many slots were selected, and these are the first of them
 pub record IsSelected (s : Selected) (slots : List ℕ) : Type 0 where
   pub count : s.count ≡ length slots
   pub first : s.first ≡ take 29 slots

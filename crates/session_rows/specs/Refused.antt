@@ -33,7 +33,7 @@ is_order_index info = is_order info.access
 abbrev pub is_table_index : IndexInfo → Bool
 is_table_index info = is_memhash info.access
 
--- a number before, where the one behind it is less
+-- a number before, where the one after it is less
 abbrev pub falls_to : Value → Value → Option ℤ
 falls_to (value.Number a) (value.Number b) = if int_lt b a then Some a else None
 falls_to _ _ = None

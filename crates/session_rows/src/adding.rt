@@ -1,4 +1,4 @@
-//! A row behind the others of a relation, and its keys in the indexes.
+//! A row after the others of a relation, and its keys in the indexes.
 
 #![tactic(auto)]
 
@@ -24,7 +24,7 @@ use db_model::{Tuple, row_length};
 use index_set::{HashTables, Indexes, Rooms, insert_all, prepare_all};
 use tuple_file::Tuples;
 
-/// Puts a row behind the others, and its keys into each index: room for all of it is made before
+/// Puts a row after the others, and its keys into each index: room for all of it is made before
 /// any of it is written.
 pub(crate) fn add_row<V: Files>(
     files: &mut V,

@@ -30,7 +30,7 @@ use index_set::{HashTables, Indexes};
 use session_model::{Answer, Base, Held, Open, find_relation, indexes_of};
 use tuple_file::Tuples;
 
-/// Puts a row behind the others of a relation: room for it and for its keys is made before any of it
+/// Puts a row after the others of a relation: room for it and for its keys is made before any of it
 /// is written. What a cut leaves mends to a database with the row or without it.
 pub fn insert<V: Files>(
     base: &mut Base<V>,
@@ -57,7 +57,7 @@ pub fn insert<V: Files>(
     Ok(answer)
 }
 
-// Puts a row behind the others of the relation in a slot.
+// Puts a row after the others of the relation in a slot.
 fn insert_at<V: Files>(
     files: &mut V,
     tables: &mut HashTables,
@@ -97,7 +97,7 @@ fn insert_at<V: Files>(
     Ok(answer)
 }
 
-// Puts a row behind the others of a relation with these indexes.
+// Puts a row after the others of a relation with these indexes.
 fn insert_row<V: Files>(
     files: &mut V,
     tables: &mut HashTables,

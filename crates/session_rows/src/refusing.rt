@@ -23,7 +23,7 @@ use tuple_file::Tuples;
 // How many rows a relation may have in a database of version 1.
 const MOST_SLOTS_OF_VERSION_1: u16 = 16_384;
 
-/// Why a row may not be put behind the others, `None` where it may.
+/// Why a row may not be put after the others, `None` where it may.
 pub(crate) fn refused_row<V: Files>(
     files: &mut V,
     version: u8,

@@ -103,7 +103,7 @@ pub(crate) fn fallen(indexes: &Indexes, last: &[Value], values: &[Value]) -> Opt
     None
 }
 
-// The number at a place that is kept in order, where the one behind it is less.
+// The number at a place that is kept in order, where the one after it is less.
 fn falls_at(indexes: &Indexes, place: u8, before: &Value, behind: &Value) -> Option<i64>
     ensures { result ≡ falls_at (is_ordered_by indexes.now) place before.now behind.now }
 {
@@ -129,7 +129,7 @@ fn is_order_on(place: u8, info: &IndexInfo) -> bool
     is_order(info) && info.attribute == place
 }
 
-// The number, where the one behind it is less.
+// The number, where the one after it is less.
 fn falls_to(before: &Value, behind: &Value) -> Option<i64>
     ensures { result ≡ falls_to before.now behind.now }
 {

@@ -27,7 +27,7 @@ IsRelationOf files k None None = ⊤
 IsRelationOf files k (Some schema) (Some t) = (t.schema ≡ schema) × IsNamed files t.file (rows_file k)
 IsRelationOf files k _ _ = ⊥
 
--- the second table is for an index behind one with a table
+-- the second table is for an index after one with a table
 abbrev pub table_behind : List (Option Index) → TableId
 table_behind before = if list_any is_table before then Second else First
 

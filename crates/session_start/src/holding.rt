@@ -127,7 +127,7 @@ fn access_of<V: Files>(
     }
 }
 
-// The table of an index behind some others.
+// The table of an index after some others.
 fn table_behind(before: &[Option<IndexEntry>]) -> TableId
     ensures { result ≡ table_behind (indexes_in before.now) }
 {

@@ -7,7 +7,7 @@ fn of_zeros(alloc: Global, bytes: usize) -> Result<Vec<u8>, AllocError> {
     vec![in alloc; 0u8; bytes]
 }
 
-/// So many zeros.
+/// This many zeros.
 pub fn zeros(alloc: Global, bytes: usize) -> Vec<u8> {
     match of_zeros(alloc, bytes) {
         Ok(bytes) => bytes,

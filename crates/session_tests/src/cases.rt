@@ -21,7 +21,7 @@ pub struct Case {
     pub replies: &'static [Part],
 }
 
-/// What a test shows is so.
+/// Fails a test unless this holds.
 pub fn show(holds: bool, shows: &'static str) -> Result<(), Fail> {
     if holds { Ok(()) } else { Err(Fail::new(shows)) }
 }
@@ -50,7 +50,7 @@ fn first_wrong(alloc: Global, cases: &[Case]) -> Option<&'static str> {
     None
 }
 
-/// Carries out each script over an erased flash of so many bytes.
+/// Carries out each script over an erased flash of this many bytes.
 pub fn expect_each_on_flash(alloc: Global, bytes: usize, cases: &[Case]) -> Result<(), Fail> {
     none_is_wrong(first_wrong_on_flash(alloc, bytes, cases))
 }
@@ -64,7 +64,7 @@ fn first_wrong_on_flash(alloc: Global, bytes: usize, cases: &[Case]) -> Option<&
     None
 }
 
-// Whether a script over an erased flash of so many bytes has the replies of the case.
+// Whether a script over an erased flash of this many bytes has the replies of the case.
 fn is_told_on_flash(alloc: Global, bytes: usize, case: &Case) -> bool {
     match volume_over(zeros(alloc, bytes).as_mut_slice()) {
         Some(volume) => is_told(alloc, volume, case),

@@ -31,7 +31,7 @@ pub fn new_file<V: Files>(files: &mut V, name: &[u8], kind: Kind) -> Option<File
     }
 }
 
-// Whether a file of the kind may have so many bytes.
+// Whether a file of the kind may have this many bytes.
 fn holds(kind: Kind, size: u32) -> bool
     requires { size ≤ 4194304 }
     ensures { IsTrue result → (n : ℕ) → kind ≡ Kind.Fixed n → size + 32 ≤ 256 * n }
@@ -42,7 +42,7 @@ fn holds(kind: Kind, size: u32) -> bool
     }
 }
 
-// Whether bytes may be put behind those of a file of so many.
+// Whether bytes may be put after those of a file of this many.
 fn is_tail(kind: Kind, size: u32, tail: &[u8]) -> bool
     ensures some { IsTrue result → 1 ≤ length tail.now }
     ensures few { IsTrue result → length tail.now ≤ 4096 }
@@ -61,7 +61,7 @@ fn is_tail(kind: Kind, size: u32, tail: &[u8]) -> bool
     total <= 4_194_304 && holds(kind, total)
 }
 
-/// Puts bytes behind those of a file, and answers whether they fit.
+/// Puts bytes after those of a file, and answers whether they fit.
 pub fn fill<V: Files>(files: &mut V, id: FileId, bytes: &[u8]) -> bool
     requires idle { (V.state files.old).draft ≡ None }
     ensures idle { IsTrue result → (V.state files.new).draft ≡ None }

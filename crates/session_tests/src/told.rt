@@ -1,4 +1,4 @@
-//! A session that is told commands as text.
+//! A session that gets commands as text.
 
 ghost use Rattle.std.specs.Prelude.{◌≡◌, ◌≤◌, IfSome, None, OnOk, length};
 ghost use Rattle.session_model.specs.Queries.{IsWellFormed};

@@ -24,7 +24,7 @@ fn old_catalog() -> [u8; 1472] {
     bytes
 }
 
-// Makes the files of the relation `n` of version 1, with so many rows of the number 5.
+// Makes the files of the relation `n` of version 1, with this many rows of the number 5.
 fn make_old<V: Files>(files: &mut V, rows: u16) -> bool
     requires { (V.state files.old).draft ≡ None }
     ensures { IsTrue result → (V.state files.new).draft ≡ None }
@@ -50,7 +50,7 @@ fn make_rows<V: Files>(files: &mut V, rows: u16) -> bool
     true
 }
 
-// What a text gives over files that are made so, and the files behind it.
+// What a text gives over files that are made so, and the files after it.
 fn told_old<V: Files + Drop>(
     alloc: Global,
     files: V,
@@ -67,7 +67,7 @@ fn told_old<V: Files + Drop>(
     }
 }
 
-// A script over so many rows of version 1, its replies, and the bytes of the catalog behind it, where they
+// A script over this many rows of version 1, its replies, and the bytes of the catalog after it, where they
 // are looked at.
 #[derive(Drop)]
 struct Case {

@@ -31,7 +31,7 @@ impl Tally {
     }
 }
 
-// Command number k of a seed behind the first four: a key that is hashed from k is inserted, and at
+// Command number k of a seed after the first four: a key that is hashed from k is inserted, and at
 // every 64th one is looked for.
 fn push_generated(alloc: Global, seed: u32, k: u32) -> Result<Vec<u8>, AllocError> {
     let mixed = seed ^ k.wrapping_mul(2_654_435_761);

@@ -34,7 +34,7 @@ pub extern "C" fn sorachest_dump(image: &mut [u8], replies: &mut [u8]) -> Ended
     run_lent(Form::Dump, image, b"", replies)
 }
 
-/// Tells how many sectors suffice for so many further rows in each relation.
+/// Writes how many sectors are enough for this many more rows in each relation.
 #[unsafe(no_mangle)]
 pub extern "C" fn sorachest_plan(image: &mut [u8], rows: u16, replies: &mut [u8]) -> Ended
     ensures { RunsInMemory (Form.Plan (Each rows)) image.old []
@@ -44,7 +44,7 @@ pub extern "C" fn sorachest_plan(image: &mut [u8], rows: u16, replies: &mut [u8]
     run_lent(Form::Plan { rows }, image, b"", replies)
 }
 
-/// Tells what stands on the image.
+/// Writes what is on the image.
 #[unsafe(no_mangle)]
 pub extern "C" fn sorachest_look(image: &mut [u8], replies: &mut [u8]) -> Ended
     ensures { RunsInMemory Form.Look image.old [] result.status result.written image.new replies.new }
@@ -52,7 +52,7 @@ pub extern "C" fn sorachest_look(image: &mut [u8], replies: &mut [u8]) -> Ended
     run_lent(Form::Look, image, b"", replies)
 }
 
-/// Tells what a repair would put right.
+/// Writes what a repair would change.
 #[unsafe(no_mangle)]
 pub extern "C" fn sorachest_check(image: &mut [u8], replies: &mut [u8]) -> Ended
     ensures { ChecksInMemory image.old result.status result.written image.new replies.new }
@@ -60,7 +60,7 @@ pub extern "C" fn sorachest_check(image: &mut [u8], replies: &mut [u8]) -> Ended
     check_lent(image, replies)
 }
 
-/// Puts right what a power cut left.
+/// Repairs what a power cut left.
 #[unsafe(no_mangle)]
 pub extern "C" fn sorachest_repair(image: &mut [u8], replies: &mut [u8]) -> Ended
     ensures { RepairsInMemory image.old result.status result.written image.new replies.new }
@@ -68,7 +68,7 @@ pub extern "C" fn sorachest_repair(image: &mut [u8], replies: &mut [u8]) -> Ende
     repair_lent(image, replies)
 }
 
-/// Erases what a collection takes.
+/// Erases the sectors that a collection takes.
 #[unsafe(no_mangle)]
 pub extern "C" fn sorachest_collect(image: &mut [u8], replies: &mut [u8]) -> Ended
     ensures { CollectsInMemory image.old result.status result.written image.new replies.new }

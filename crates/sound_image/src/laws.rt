@@ -38,7 +38,7 @@ pub fn sound_image_breaks_no_rule()
     ensures { (image : List ℕ) (rule place : ℕ) → IsSound image → IsFirstBroken image rule place → ⊥ }
 {}
 
-/// No command wants an extent of more pages, of a volume whose files are a sound database, than are counted
+/// No command needs an extent of more pages, of a volume whose files are a sound database, than are counted
 /// for it.
 pub fn volumes_are_asked_for_few<F: Flash>(volume: &Volume<F>)
     ensures { let files = (⟦<Volume<F> as Files>⟧.state volume.now).files in

@@ -39,7 +39,7 @@ file_sizes db = map rows_size (used_things db.relations) ++ tree_sizes db (used_
 
 -- ---- sectors
 
--- the sectors that an extent of so many bytes touches at most, wherever it begins
+-- the sectors that an extent of this many bytes touches at most, wherever it begins
 abbrev pub touched : ℕ → ℕ
 touched size = fit size / 8 + 1
 
@@ -48,7 +48,7 @@ touched size = fit size / 8 + 1
 abbrev pub touched_by : List ℕ → ℕ
 touched_by sizes = sum (map touched sizes) + 2 + 2 * (1 + length sizes)
 
--- sectors with which an extent of n pages can always be had beside them: between the active extents of f files lie at most
+-- sectors with which an extent of n pages is always available beside them: between the active extents of f files lie at most
 -- 2f + 1 gaps
 abbrev pub enough_for : List ℕ → ℕ → ℕ
 enough_for sizes n = touched_by sizes + (2 * (1 + length sizes) + 1) * ((n + 15) / 16 - 1) + 1

@@ -24,7 +24,7 @@ abbrev pub room_for : ℕ → ℕ → ℕ → ℕ × ℕ
 room_for size at n = if size == 0 then (0, 1480) else (if size == 1472 then (regions at n, 8) else (regions at n, 0))
 
 -- `size_of` says how many bytes a file has, None where there is none of that name; `asks` says that an extent of n pages is
--- needed to prepare so many overwrites and so many appended bytes of a file; `room` says what an insert of a key into the
+-- needed to prepare this many overwrites and this many appended bytes of a file; `room` says what an insert of a key into the
 -- hash tree of an index slot needs
 module _ (size_of : List ℕ → Option ℕ) (asks : List ℕ → ℕ → ℕ → ℕ → Type 0) (room : ℕ → ℤ → ℕ × ℕ) where
   -- a change of n bytes at a place of the catalog
@@ -87,7 +87,7 @@ module _ (size_of : List ℕ → Option ℕ) (asks : List ℕ → ℕ → ℕ �
   -- ---- what the store of files answers
 
   -- for at most 4,096 bytes more a file is grown to at most twice the pages that its size needs, and a log has 16; a key that
-  -- comes into a tree adds at most so many bytes
+  -- comes into a tree adds at most this many bytes
   pub record AsksFew : Type 0 where
     pub bucket : (slot : ℕ) (key : ℤ) → (room slot key).1 ≤ 4096
     pub few : (name : List ℕ) (w b need size : ℕ) → b ≤ 4096 → size ≤ 4194304 → size_of name ≡ Some size

@@ -30,7 +30,7 @@ abbrev pub rows_brought : Database → List Command → List ℕ → ℕ
 rows_brought db [] name = 0
 rows_brought db (c ∷ commands) name = (if brings_row db name c then 1 else 0) + rows_brought (step db c).0 commands name
 
--- commands that insert and read, and bring at most so many rows to the relation of each name
+-- commands that insert and read, and bring at most this many rows to the relation of each name
 pub record KeepsToPlan (most : List ℕ → ℕ) (db : Database) (commands : List Command) : Type 0 where
   pub kinds : AllByRecursion IsInsertOrRead commands
   pub few : (name : List ℕ) → rows_brought db commands name ≤ most name

@@ -18,12 +18,12 @@ IsOfRows (command.RemoveFrom relation nodes) = ⊤
 IsOfRows (command.Pack relation) = ⊤
 IsOfRows c = Reads c
 
--- each relation has at most so many slots more than it had, by its name
+-- each relation has at most this many slots more than it had, by its name
 abbrev pub HasFewMore : (most : List ℕ → ℕ) → (db now : Database) → Type 0
 HasFewMore most db now = (slot : ℕ) (r q : Relation) → StandsIn db.relations slot r → StandsIn now.relations slot q
     → length q.rows ≤ length r.rows + most r.schema.name
 
--- commands of rows, which at any time leave each relation at most so many slots more
+-- commands of rows, which at any time leave each relation at most this many slots more
 pub record KeepsToRing (most : List ℕ → ℕ) (db : Database) (commands : List Command) : Type 0 where
   pub kinds : AllByRecursion IsOfRows commands
   pub few : (front rest : List Command) → commands ≡ front ++ rest → HasFewMore most db (after_all db front)
@@ -39,7 +39,7 @@ abbrev pub makes_tree : Command → Bool
 makes_tree (command.CreateIndex relation attribute MaxHeap) = true
 makes_tree c = false
 
--- the rows of a relation are no longer than those of another, and use at most so many slots more
+-- the rows of a relation are no longer than those of another, and use at most this many slots more
 pub record IsNoLarger (most : ℕ) (r q : Relation) : Type 0 where
   pub width : row_length q.schema.attributes ≤ row_length r.schema.attributes
   pub few : length q.rows ≤ length r.rows + most

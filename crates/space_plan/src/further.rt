@@ -11,7 +11,7 @@ use afl_base::{Files, RelationId};
 use antelope_engine::Session;
 use db_model::{Few, Ident};
 
-/// So many rows for the relation of a name.
+/// This many rows for the relation of a name.
 #[derive(Clone, Copy, Debug, PartialEq, Eq)]
 pub struct NamedRows {
     pub relation: Ident,
@@ -30,9 +30,9 @@ impl Default for NamedRows {
 /// How many further rows are planned for, relation by relation.
 #[derive(Drop)]
 pub enum FurtherRows {
-    /// So many in each.
+    /// This many in each.
     Each(u16),
-    /// So many in those that are named, and none in the others.
+    /// This many in those that are named, and none in the others.
     Named(Few<NamedRows, 8>),
 }
 

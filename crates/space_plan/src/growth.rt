@@ -12,7 +12,7 @@ use index_maxheap::{BUCKET_SIZE, HEAD_SIZE};
 // The slots that a relation has at most.
 const SLOTS: u32 = 32_768;
 
-// The slots of a relation after so many more rows.
+// The slots of a relation after this many more rows.
 fn slots_planned(rows: u16, slots: u16) -> u32
     ensures value { result ≡ slots_planned rows slots }
     ensures few { result ≤ 32768 }
@@ -27,7 +27,7 @@ pub fn rows_size(rows: u16, attributes: &Attributes, slots: u16) -> u32
     row_length(attributes) as u32 * slots_planned(rows, slots)
 }
 
-// The bytes of a hash tree after so many more rows.
+// The bytes of a hash tree after this many more rows.
 pub fn tree_size(rows: u16, buckets: u16, slots: u16) -> u32
     ensures { result ≡ 683 + 195 * buckets_planned rows buckets slots }
 {

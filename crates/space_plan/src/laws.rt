@@ -22,7 +22,7 @@ pub fn sound_databases_have_few_rows()
     ensures { (db : Database) → IsSoundDatabase db → HasFewRows db }
 {}
 
-/// After commands that insert and read, and bring at most so many rows to each relation as were planned for
+/// After commands that insert and read, and bring at most this many rows to each relation as were planned for
 /// by its name, the sectors that are enough for one more INSERT are no more than were planned.
 pub fn planned_space_suffices()
     ensures { (rows : List ℕ → ℕ) (db : Database) (commands : List AnyCommand)
@@ -31,7 +31,7 @@ pub fn planned_space_suffices()
         enough grown (most grown (Insert values name)) ≤ planned db rows }
 {}
 
-/// In a script whose commands insert and read, and bring at most so many rows to each relation as were
+/// In a script whose commands insert and read, and bring at most this many rows to each relation as were
 /// planned for by its name, each command asks for nothing, or a flash with the sectors that were planned has
 /// enough for it.
 pub fn planned_flash_has_enough()
@@ -45,7 +45,7 @@ pub fn planned_flash_has_enough()
 {}
 
 /// The same of scripts that take rows out again, in two kinds. In one of INSERT, REMOVE FROM, PACK and what reads, at any
-/// time each relation has at most so many slots more than now as were planned for by its name; a removed row has its
+/// time each relation has at most this many slots more than now as were planned for by its name; a removed row has its
 /// slot until a PACK. Or no index is a hash tree and no command makes one, and at any time each slot has no relation, or
 /// one, of whatever name, whose rows are no longer than those of the relation that was there for the plan, and whose
 /// slots are no more than were planned for that: so relations may come and go.

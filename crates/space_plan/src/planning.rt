@@ -72,7 +72,7 @@ fn planned_tree<V: Files>(session: &Session<V>, slot: u16, rows: &FurtherRows) -
     }
 }
 
-// Puts a size behind the others, where there is one.
+// Puts a size after the others, where there is one.
 fn push(sizes: &mut Few<u32, 16>, size: Option<u32>)
     requires { length sizes.old < 16 }
     ensures { sizes.new ≡ sizes.old ++ option_to_list size }
@@ -83,7 +83,7 @@ fn push(sizes: &mut Few<u32, 16>, size: Option<u32>)
     }
 }
 
-// Puts the sizes that are planned for the rows of relations behind the others.
+// Puts the sizes that are planned for the rows of relations after the others.
 fn push_rows<V: Files>(session: &Session<V>, rows: &FurtherRows, sizes: &mut Few<u32, 16>)
     requires running { session.now.stopped ≡ false }
     requires empty { sizes.old ≡ [] }
@@ -97,7 +97,7 @@ fn push_rows<V: Files>(session: &Session<V>, rows: &FurtherRows, sizes: &mut Few
     }
 }
 
-// Puts the sizes that are planned for hash trees behind the others.
+// Puts the sizes that are planned for hash trees after the others.
 fn push_trees<V: Files>(session: &Session<V>, rows: &FurtherRows, sizes: &mut Few<u32, 16>)
     requires running { session.now.stopped ≡ false }
     requires few { length sizes.old ≤ 8 }

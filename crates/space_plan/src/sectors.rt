@@ -13,7 +13,7 @@ use afl_base::fit;
 // The bytes that the largest extent holds.
 const LARGEST: u32 = 8_388_576;
 
-// The pages of the extent of a file of so many bytes; a size beyond the largest extent counts as it.
+// The pages of the extent of a file of this many bytes; a size beyond the largest extent counts as it.
 #[tactic(auto, using(crate::proofs::Fitting::fit_capped, crate::proofs::Fitting::fit_few))]
 fn pages(size: u32) -> u32
     ensures value { result ≡ fit size }
@@ -56,7 +56,7 @@ pub fn most_of(sizes: &[u32]) -> u32
     (2 * largest(sizes)).max(16)
 }
 
-// The sectors with which an extent of so many pages can always be had beside a catalog and the files.
+// The sectors with which an extent of this many pages is always available beside a catalog and the files.
 pub fn enough_for(sizes: &[u32], pages: u32) -> u32
     requires files { length sizes.now ≤ 16 }
     requires some { 1 ≤ pages }

@@ -61,7 +61,7 @@ IsEdge k at = (176 * k + at) % 128 ≡ 0
 
 -- ---- slots of relations
 
--- zeros stand in front, up to where a region begins, and behind them the rest of a relation's slot
+-- zeros stand in front, up to where a region begins, and after them the rest of a relation's slot
 pub record IsEmptiedInPart (k : ℕ) (slot : List ℕ) : Type 0 where
   pub was : Schema
   pub valid : IsRelation (Some was)
@@ -73,8 +73,8 @@ pub record IsEmptiedInPart (k : ℕ) (slot : List ℕ) : Type 0 where
 abbrev pub with_attribute : Schema → Attribute → Schema
 with_attribute schema a = record schema { attributes = schema.attributes ++ a ∷ [] }
 
--- behind its attributes stands one more, or those of its bytes that lie before or behind the begin of a region; their
--- number, which stands in a region behind them, is still the old one
+-- after its attributes stands one more, or those of its bytes that lie before or after the begin of a region; their
+-- number, which stands in a region after them, is still the old one
 pub record IsGrownInPart (k : ℕ) (slot : List ℕ) (schema : Schema) : Type 0 where
   pub more : Attribute
   pub valid : IsAttribute more
@@ -97,7 +97,7 @@ IsSlot half version k slot (Some schema) =
 
 -- ---- the mark of version 2
 
--- the last bytes that a command writes into the catalog are the mark's: nothing is half done then but what comes behind them, or stood before
+-- the last bytes that a command writes into the catalog are the mark's: nothing is half done then but what comes after them, or stood before
 abbrev pub IsBehindSlot : Half → Type 0
 IsBehindSlot Nothing = ⊤
 IsBehindSlot (LoneRows k) = ⊤
@@ -118,14 +118,14 @@ pub record IsTimed (files : Table) : Type 0 where
   pub alone : (j : ℕ) → has_time (relation files j) ≡ true → j ≡ k
   pub empty : bytes_named (rows_file k) files ≡ []
 
--- a front part of the mark stands behind the slots
+-- a front part of the mark stands after the slots
 pub record IsMarkedInPart (bytes : List ℕ) : Type 0 where
   pub n : ℕ
   pub some : (0 < n) × (n < 8)
   pub size : length bytes ≡ 1472 + n
   pub front : drop 1472 bytes ≡ take n version_mark
 
--- a catalog has the form of its version; or a front part of the mark, or none of it where a TIME wants it
+-- a catalog has the form of its version; or a front part of the mark, or none of it where a TIME needs it
 abbrev pub HasMark : Table → Half → Type 0
 HasMark files half = let bytes = catalog_bytes_in files in
     ((has_form bytes ≡ true) × (version_of bytes ≡ (mended_catalog files).version))

@@ -27,7 +27,7 @@ abbrev pub has_time : Option Schema → Bool
 has_time None = false
 has_time (Some schema) = list_any (λ a. is_time_domain a.domain) schema.attributes
 
--- version 2 too where a relation wants it and the mark is not there yet
+-- version 2 too where a relation needs it and the mark is not there yet
 abbrev pub mended_version : List ℕ → ℕ
 mended_version bytes = if list_any has_time (catalog_of bytes).relations then 2 else version_of bytes
 
@@ -35,7 +35,7 @@ mended_version bytes = if list_any has_time (catalog_of bytes).relations then 2 
 abbrev pub standing : Table → ℕ → Option Index → Option Index
 standing files slot index = if is_tree index && not (is_there (tree_file slot) files) then None else index
 
--- relations and indexes as their slots are read: a slot without a name is unused, and an attribute behind their number is none
+-- relations and indexes as their slots are read: a slot without a name is unused, and an attribute after their number is none
 unfoldable pub mended_catalog : Table → Catalog
 mended_catalog files = let read = catalog_of (whole_catalog files) in record {
   version = mended_version (whole_catalog files);

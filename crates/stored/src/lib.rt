@@ -34,7 +34,7 @@ pub fn sound_files_break_no_rule()
     ensures { (files : Table) (rule place : ℕ) → IsSoundTable files → BreaksFirst files rule place → ⊥ }
 {}
 
-/// A flash that has no more sectors than sound files take, with a gap behind each extent, has fewer than
+/// A flash that has no more sectors than sound files take, with a gap after each extent, has fewer than
 /// are enough for their database.
 pub fn crowded_files_have_too_few_sectors()
     ensures { (files : Table) (n sectors : ℕ) → length files ≡ 32 → AreDistinct files → IsSoundTable files

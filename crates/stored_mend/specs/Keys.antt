@@ -10,7 +10,7 @@ use Rattle.db_model.specs.Row.{fields_length, row_length, slots_in_bytes, width}
 use Rattle.db_model.specs.Step.{allows}
 use Rattle.space_model.specs.FileNames.{rows_file}
 
--- numbers of 2, 4 or 8 bytes stand in so many slots of a file
+-- numbers of 2, 4 or 8 bytes stand in this many slots of a file
 pub record AreKeys (state : State) (column : KeyColumn) (slots : ℕ) : Type 0 where
   pub width : IsWidth column.width
   pub few : slots ≤ 32768

@@ -1,4 +1,4 @@
--- The lines that tell what was put right.
+-- The lines that tell what was repaired.
 use Rattle.std.specs.Prelude.{ℕ, List, ◌++◌, codes, decimal, flat_map}
 use Rattle.stored_mend.specs.declared.report.Mended.{Mended as AnyMended}
 use Rattle.stored_mend.specs.declared.report.Mended.TheVariants.{Catalog, Mark, Relation, Attribute, Row, Tree, Index, Stray}

@@ -1,4 +1,4 @@
-//! The file of the catalog, put right slot by slot.
+//! The file of the catalog, repaired slot by slot.
 
 #![tactic(auto)]
 
@@ -95,7 +95,7 @@ fn write_mark<V: Files>(files: &mut V, cat: FileId, report: &mut Report) -> Resu
     Ok(())
 }
 
-/// Puts a relation slot right: it is emptied where its name is gone, what stands behind its attributes
+/// Repairs a relation slot: it is emptied where its name is gone, what stands after its attributes
 /// is taken back, and a catalog of version 1 gets the mark where it has a TIME.
 pub fn mend_relation<V: Files>(
     files: &mut V,
@@ -172,7 +172,7 @@ fn report_removed<V: Files>(files: &V, slot: u16, report: &mut Report) {
     }
 }
 
-// Takes back what stands behind the attributes of a relation, and writes the mark for a TIME.
+// Takes back what stands after the attributes of a relation, and writes the mark for a TIME.
 fn mend_schema<V: Files>(
     files: &mut V,
     cat: FileId,
@@ -235,7 +235,7 @@ fn has_time(schema: &Schema) -> bool
     false
 }
 
-// Writes zeros behind the attributes of a relation, where there are other bytes.
+// Writes zeros after the attributes of a relation, where there are other bytes.
 fn take_back_attribute<V: Files>(
     files: &mut V,
     slot: u16,

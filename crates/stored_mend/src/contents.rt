@@ -102,7 +102,7 @@ fn mend_rows_of<V: Files>(
     Ok(())
 }
 
-// Whether so many bytes of the file can be a file: it doubles, and the last of them is not zero.
+// Whether this many bytes of the file can be a file: it doubles, and the last of them is not zero.
 fn may_end_at<V: Files>(files: &mut V, file: FileId, size: u32) -> Result<bool, Failed>
     requires live { IsLive (V.state files.old).files file }
     requires inside { size ≤ size_at (V.state files.old).files file }

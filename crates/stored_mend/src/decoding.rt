@@ -15,7 +15,7 @@ use catalog::read_relation;
 use db_model::Schema;
 
 /// What a relation slot is read as, None where no cut leaves it. Without a name it was being emptied.
-/// What stands behind its attributes was to be one more, and is none.
+/// What stands after its attributes was to be one more, and is none.
 pub fn mended_relation(slot: &[u8]) -> Option<Option<Schema>>
     requires { length slot.now ≡ 176 }
     ensures read { IfSome result (λ relation. relation ≡ relation_slot_of slot.now) }

@@ -1,4 +1,4 @@
-//! The files of a database, put right behind a cut of the power.
+//! The files of a database, repaired after a cut of the power.
 //!
 //! A cut in the middle of a command leaves the database before it or after it, but for a part of what
 //! was being written. `mend_database` takes back or completes what stands there in part.

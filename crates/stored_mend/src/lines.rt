@@ -13,7 +13,7 @@ use crate::report::{Mended, Report};
 use afl_base::{Failed, Sink};
 use reply_text::write_all;
 
-/// Appends a line for each thing that was put right. `Failed` leaves a proper prefix of them there.
+/// Appends a line for each thing that was repaired. `Failed` leaves a proper prefix of them there.
 pub fn write_report<K: Sink>(out: &mut K, report: &Report) -> Result<(), Failed>
     ensures written { let all = report_text report.now.mended in
         OnOk result (K.held out.new ≡ append_known (K.held out.old) all) }

@@ -1,4 +1,4 @@
-//! All files of a database, put right one after another.
+//! All files of a database, repaired one after another.
 
 #![tactic(auto)]
 
@@ -17,7 +17,7 @@ use crate::trees::mend_all_trees;
 use afl_base::{Failed, FileError, Files};
 use catalog::{Catalog, load};
 
-/// Puts files right in which a cut left a part of a change, as `survey` tells, and reports what it did.
+/// Repairs files in which a cut left a part of a change, as `survey` tells, and reports what it did.
 /// It makes room before each change, and `Space` has the pages that were lacking. It is made so that it
 /// can be begun anew where it was cut itself, or had no space.
 pub fn mend_database<V: Files>(files: &mut V, report: &mut Report) -> Result<(), FileError>
@@ -35,7 +35,7 @@ pub fn mend_database<V: Files>(files: &mut V, report: &mut Report) -> Result<(),
     Ok(())
 }
 
-// Puts right what the catalog asks for.
+// Repairs what the catalog asks for.
 #[tactic(auto, using(crate::proofs::PutRight::right_same))]
 fn mend_listed<V: Files>(files: &mut V, report: &mut Report) -> Result<(), FileError>
     requires idle { (V.state files.old).draft ≡ None }
@@ -101,7 +101,7 @@ fn remove_strays<V: Files>(files: &mut V, report: &mut Report) -> Result<(), Fil
     Ok(())
 }
 
-// Puts rows and trees right.
+// Repairs rows and trees.
 fn mend_contents<V: Files>(
     files: &mut V,
     catalog: &Catalog,

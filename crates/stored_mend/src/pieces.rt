@@ -11,7 +11,7 @@ ghost use Rattle.stored_mend.specs.Report.{index_report};
 use afl_base::{Failed, Sink};
 use reply_text::{write_all, write_count};
 
-// Appends words, a name, and words behind it.
+// Appends words, a name, and words after it.
 pub fn write_name<K: Sink>(
     out: &mut K,
     first: &[u8],
@@ -29,7 +29,7 @@ pub fn write_name<K: Sink>(
     write_all(out, last)
 }
 
-// Appends words, a number in decimal, and words behind it.
+// Appends words, a number in decimal, and words after it.
 pub fn write_slot<K: Sink>(out: &mut K, first: &[u8], slot: u64, last: &[u8]) -> Result<(), Failed>
     ensures written { let all = first.now ++ decimal slot ++ last.now in
         OnOk result (K.held out.new ≡ append_known (K.held out.old) all) }

@@ -1,4 +1,4 @@
-//! What was put right in a database.
+//! What was repaired in a database.
 
 #![tactic(auto)]
 
@@ -7,12 +7,12 @@ ghost use Rattle.std.specs.Prelude.{◌≡◌, ◌≤◌, ◌++◌, [], ◌∷�
 use afl_base::{IndexId, RelationId};
 use db_model::{Few, Ident};
 
-/// Something that was put right.
+/// Something that was repaired.
 #[derive(Clone, Copy, Debug, PartialEq, Eq)]
 pub enum Mended {
     /// The first change of the catalog was not whole: its file is removed.
     Catalog,
-    /// The mark of version 2 stands behind the catalog.
+    /// The mark of version 2 stands after the catalog.
     Mark,
     /// The rest of a relation that has no name is removed.
     Relation(RelationId),
@@ -34,7 +34,7 @@ impl Default for Mended {
     }
 }
 
-/// All that was put right, in the order of the work.
+/// All that was repaired, in the order of the work.
 #[derive(Drop)]
 pub struct Report {
     pub mended: Few<Mended, 40>,

@@ -1,4 +1,4 @@
-//! What putting right comes to, told by reading alone.
+//! What a repair would do, found by reading alone.
 
 #![tactic(auto)]
 
@@ -15,7 +15,7 @@ use db_model::{Ident, IndexKind};
 use stored::Half;
 use stored_mend::{Mended, Report, SIZE_OF_VERSION_1, may_fill, whole_catalog};
 
-/// Adds to a report what `mend_database` would put right where it has room, in its order. The files are ones of
+/// Adds to a report what `mend_database` would repair where it has room, in its order. The files are ones of
 /// which `may_be_cut` answers that a cut can have left them. They stay.
 pub fn foretell<V: Files>(files: &mut V, report: &mut Report) -> Result<(), Failed>
     ensures frame { OnlyReads V.state V.lent V.reads V.faults files.old files.new result }

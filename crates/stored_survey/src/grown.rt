@@ -17,7 +17,7 @@ use catalog::is_row;
 use db_model::{Attribute, Attributes, Ident, Schema, up_to_zero};
 use padded::is_zeros;
 
-/// Whether nothing stands behind the attributes of a relation.
+/// Whether nothing stands after the attributes of a relation.
 pub fn ends_with_attributes(bytes: &[u8], schema: &Schema) -> bool
     requires length { length bytes.now ≡ 176 }
     ensures is { IsReadSlot bytes.now schema.now
@@ -26,8 +26,8 @@ pub fn ends_with_attributes(bytes: &[u8], schema: &Schema) -> bool
     is_zeros(&bytes[ATTRIBUTES_AT + ATTRIBUTE_SIZE * schema.attributes.len()..160])
 }
 
-/// Whether one more attribute stands behind those of a relation, or those bytes of it that lie before or
-/// behind the begin of a region, and nothing else. Their number stands in a region behind it.
+/// Whether one more attribute stands after those of a relation, or those bytes of it that lie before or
+/// after the begin of a region, and nothing else. Their number stands in a region after it.
 pub fn is_grown_in_part(slot: u16, bytes: &[u8], schema: &Schema) -> bool
     requires slot { slot < 8 }
     requires length { length bytes.now ≡ 176 }

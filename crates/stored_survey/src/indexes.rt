@@ -174,7 +174,7 @@ fn is_sound_heap<V: Files>(
     }
 }
 
-// Whether the keys of an index without a tree are as it wants them.
+// Whether the keys of an index without a tree are as it requires.
 fn has_sound_keys<V: Files>(
     files: &mut V,
     catalog: &Catalog,
@@ -269,7 +269,7 @@ fn is_sound_tree<V: Files>(
     }
 }
 
-// Whether no pair of a tree names a slot behind so many.
+// Whether no pair of a tree names a slot after this many.
 fn names_slots_only<V: Files>(files: &mut V, tree: FileId, slots: u16) -> Result<bool, Failed>
     requires live { IsLive (V.state files.old).files tree }
     ensures only { let bytes = bytes_at (V.state files.old).files tree in

@@ -22,7 +22,7 @@ use catalog::{Catalog, first_stranger};
 use stored::Half;
 use stored_mend::whole_catalog;
 
-/// Whether the files are ones that a cut can have left, which `mend_database` puts right: one thing may be
+/// Whether the files are ones that a cut can have left, which `mend_database` repairs: one thing may be
 /// half done, and all else keeps the rules 14 to 20. Sound files are such ones. The files stay.
 pub fn may_be_cut<V: Files>(files: &mut V) -> Result<bool, Failed>
     ensures decides { IsTrue (V.state files.old).tells → IfOk result

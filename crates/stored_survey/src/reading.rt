@@ -84,7 +84,7 @@ pub fn relation_bytes<V: Files>(files: &mut V, cat: FileId, slot: u16) -> Result
     Ok(bytes)
 }
 
-// Version 2 also where a relation wants it and the mark is not there yet.
+// Version 2 also where a relation needs it and the mark is not there yet.
 fn version_of(size: u32, relations: &[Option<Schema>]) -> u8
     requires size { 1472 ≤ size }
     ensures { result ≡ (if list_any has_time relations.now then 2 else if size == 1472 then 1 else 2) }

@@ -107,7 +107,7 @@ fn is_time(number: i64) -> bool
     (0..=140_737_488_355_327).contains(&number)
 }
 
-// Whether a field is a text with zeros behind it.
+// Whether a field is a text with zeros after it.
 fn is_text_field(field: &[u8]) -> bool
     ensures { result ≡ is_text_field field.now }
 {

@@ -18,7 +18,7 @@ pub enum Part {
     Numbered(&'static str, u16, &'static str),
 }
 
-/// The text of some parts, one behind the other.
+/// The text of some parts, one after the other.
 pub fn joined(alloc: Global, parts: &[Part]) -> Result<Vec<u8>, AllocError> {
     let mut text = Vec::new(alloc);
     for part in parts {
@@ -35,7 +35,7 @@ fn push_part(text: &mut Vec<u8>, part: &Part) -> Result<(), AllocError> {
     }
 }
 
-/// Puts a piece behind a text so many times.
+/// Puts a piece after a text this many times.
 pub fn push_often(text: &mut Vec<u8>, piece: &str, times: u16) -> Result<(), AllocError> {
     for _ in 0..times {
         text.extend_from_slice(piece.as_bytes())?;
@@ -43,7 +43,7 @@ pub fn push_often(text: &mut Vec<u8>, piece: &str, times: u16) -> Result<(), All
     Ok(())
 }
 
-/// Puts a number behind a text, in decimal.
+/// Puts a number after a text, in decimal.
 pub fn push_number(text: &mut Vec<u8>, number: u16) -> Result<(), AllocError> {
     let mut shown = false;
     for scale in [10_000, 1_000, 100, 10, 1] {
@@ -58,7 +58,7 @@ pub fn push_number(text: &mut Vec<u8>, number: u16) -> Result<(), AllocError> {
     Ok(())
 }
 
-// Puts two pieces with a number between them behind a text, for each number below an end.
+// Puts two pieces with a number between them after a text, for each number below an end.
 fn push_numbered(
     text: &mut Vec<u8>,
     front: &str,

@@ -19,7 +19,7 @@ is_number (Str n) = false
 abbrev pub IsNumber : List Attribute → ℕ → Type 0
 IsNumber attributes place = IsTrue (option_map_or (λ a. is_number a.domain) (slice_get attributes place) false)
 
--- its field in each row, behind those of the attributes before it
+-- its field in each row, after those of the attributes before it
 abbrev pub column_of : Tuples → ℕ → KeyColumn
 column_of tuples place = record {
   file = tuples.file;

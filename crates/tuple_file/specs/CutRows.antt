@@ -11,12 +11,12 @@ use Rattle.tuple_file.specs.Tuples.{row, rows, slots}
 abbrev pub HasWholeRows : (after : State) → Tuples → Type 0
 HasWholeRows after tuples = rows_bytes tuples.schema.attributes (rows after.files tuples) ≡ bytes_at after.files tuples.file
 
--- its whole rows have the bytes that the file had: behind them stands less than a row
+-- its whole rows have the bytes that the file had: after them stands less than a row
 abbrev pub HasRowInPart : (old after : State) → Tuples → Type 0
 HasRowInPart old after tuples =
     take (row_length tuples.schema.attributes * slots after.files tuples) (bytes_at after.files tuples.file) ≡ bytes_at old.files tuples.file
 
--- the rows are as before, with less than one more behind them, or the tuple stands, live, behind them; no other file has
+-- the rows are as before, with less than one more after them, or the tuple stands, live, after them; no other file has
 -- changed
 pub record MayAppendRow (old after : State) (tuples : Tuples) (tuple : List Value) : Type 0 where
   pub others : SparesOthers old after (λ k. k ≢ tuples.file)

@@ -5,7 +5,7 @@ use Rattle.afl_base.specs.Files.{State, draft_in}
 use Rattle.db_model.specs.Row.{Row, row_bytes, row_length}
 use Rattle.tuple_file.specs.declared.tuples.Tuples.{Tuples}
 
--- it has zeros alone, so many
+-- it has zeros alone, this many
 abbrev pub IsZeroDraft : State → ℕ → Type 0
 IsZeroDraft state size = (draft_in state).bytes ≡ replicate size 0
 

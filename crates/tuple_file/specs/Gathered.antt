@@ -8,7 +8,7 @@ pub record WaitingRows : Type 0 where
   pub at : ℕ
   pub bytes : List ℕ
 
--- where the bytes behind them belong
+-- where the bytes after them belong
 abbrev pub end_of_waiting : WaitingRows → ℕ
 end_of_waiting waiting = waiting.at + length waiting.bytes
 
@@ -16,7 +16,7 @@ end_of_waiting waiting = waiting.at + length waiting.bytes
 abbrev pub gathered : State → WaitingRows → List ℕ
 gathered state waiting = put_at (draft_in state).bytes waiting.at waiting.bytes
 
--- the draft has zeros where they belong, and all the way behind
+-- the draft has zeros where they belong, and all the way after
 abbrev pub IsFree : State → WaitingRows → Type 0
 IsFree state waiting =
     drop waiting.at (draft_in state).bytes ≡ replicate (length (draft_in state).bytes - waiting.at) 0

@@ -46,7 +46,7 @@ IsLiveTuple files tuples tuple = (slot : ℕ) × (slot < slots files tuples) × 
 abbrev pub OnlyRowsChange : State → State → Tuples → Type 0
 OnlyRowsChange old new tuples = Becomes old new tuples.file (size_at new.files tuples.file) (bytes_at new.files tuples.file)
 
--- a row is added behind those of the file
+-- a row is added after those of the file
 abbrev pub AppendsRow : (old new : State) → Tuples → Row → Type 0
 AppendsRow old new tuples row =
     Becomes old new tuples.file (size_at old.files tuples.file + row_length tuples.schema.attributes)

@@ -101,7 +101,7 @@ impl Tuples {
         Ok(())
     }
 
-    // Puts the row in the slot behind those that wait, as `removed` answers about it.
+    // Puts the row in the slot after those that wait, as `removed` answers about it.
     fn draft_answer<V: Files, F: Fn(&Tuple) -> bool>(
         &self,
         files: &mut V,
@@ -215,7 +215,7 @@ impl Tuples {
         Ok(mark[0] == 1)
     }
 
-    // Writes the live rows into the draft, which has room for so many.
+    // Writes the live rows into the draft, which has room for this many.
     fn draft_live<V: Files>(&self, files: &mut V, count: u16, room: u16) -> Result<(), Failed>
         requires holds { HoldsRows (V.state files.old) self.now }
         requires count { count ≡ slots (V.state files.old).files self.now }
@@ -247,7 +247,7 @@ impl Tuples {
         Ok(())
     }
 
-    // Puts the row in the slot, where it is live, behind those that were put before it, and answers how
+    // Puts the row in the slot, where it is live, after those that were put before it, and answers how
     // many they are then. A file that does not tell its bytes may show more live rows than it did
     // when they were counted; they are left out.
     fn draft_if_live<V: Files>(
@@ -294,7 +294,7 @@ impl Tuples {
         Ok(written + 1)
     }
 
-    // Begins a draft of so many zeros for the relation's file.
+    // Begins a draft of this many zeros for the relation's file.
     fn begin<V: Files>(&self, files: &mut V, size: u32) -> Result<(), FileError>
         requires file { IsRowFile (V.state files.old).files self.now }
         requires idle { (V.state files.old).draft ≡ None }

@@ -13,8 +13,8 @@ use afl_base::{get_i32, get_i64, get_u16, put_bytes, put_i32, put_i64, put_u16};
 use db_model::{Domain, Text, Tuple, Value, up_to_zero};
 use padded::is_zeros;
 
-// Puts the field that `bytes` begin with behind the values, the least value of its domain where they are
-// none, and answers the bytes behind it.
+// Puts the field that `bytes` begin with after the values, the least value of its domain where they are
+// none, and answers the bytes after it.
 #[tactic(auto, unfolding(afl_base::specs::Fields::u16_at, afl_base::specs::Fields::i32_at, afl_base::specs::Fields::i64_at))]
 pub fn push_field<'a>(domain: Domain, bytes: &'a [u8], into: &mut Tuple) -> &'a [u8]
     requires width { width domain ≤ length bytes.now }
@@ -86,7 +86,7 @@ pub fn is_field(domain: Domain, bytes: &[u8]) -> bool
     }
 }
 
-// Whether a field is a text with zeros behind it.
+// Whether a field is a text with zeros after it.
 pub fn is_text_field(field: &[u8]) -> bool
     ensures { result ≡ is_text_field field.now }
 {
@@ -110,7 +110,7 @@ pub fn put_field(bytes: &mut [u8], at: usize, domain: Domain, value: &Value)
     }
 }
 
-// Puts the text and zeros behind it into the `n` bytes from `at` on. All other bytes stay.
+// Puts the text and zeros after it into the `n` bytes from `at` on. All other bytes stay.
 fn put_text(bytes: &mut [u8], at: usize, n: usize, text: &[u8])
     requires short { length text.now ≤ n }
     requires room { at + n ≤ length bytes.old }

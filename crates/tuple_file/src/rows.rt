@@ -65,7 +65,7 @@ pub fn is_row(attributes: &Attributes, row: &[u8]) -> bool
     is_mark(rest[0])
 }
 
-// Whether the bytes are so many rows, one behind another.
+// Whether the bytes are this many rows, one after another.
 pub fn are_rows(attributes: &Attributes, count: u16, bytes: &[u8]) -> bool
     requires { length bytes.now ≡ row_length attributes.now * count }
     ensures { IsTrue result ↔ ((slot : ℕ) → slot < count

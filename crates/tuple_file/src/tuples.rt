@@ -282,7 +282,7 @@ impl Tuples {
         Ok(true)
     }
 
-    // Whether so many slots from this one on hold rows, which are read at once.
+    // Whether this many slots from this one on hold rows, which are read at once.
     fn are_rows_from<V: Files>(&self, files: &mut V, slot: u16, count: u16) -> Result<bool, Failed>
         requires live { IsLive (V.state files.old).files self.now.file }
         requires short { row_length self.now.schema.attributes ≤ 128 }

@@ -51,7 +51,7 @@ impl Waiting {
         }
     }
 
-    /// Puts a row behind those that came before it.
+    /// Puts a row after those that came before it.
     pub(crate) fn put<V: Files>(
         &mut self,
         files: &mut V,
@@ -80,7 +80,7 @@ impl Waiting {
         Ok(())
     }
 
-    // Makes room for so many bytes.
+    // Makes room for this many bytes.
     fn make_room<V: Files>(&mut self, files: &mut V, count: usize) -> Result<(), Failed>
         requires count { count ≤ 128 }
         requires takes { TakesRows (V.state files.old) self.old }

@@ -3,7 +3,7 @@ use Rattle.std.specs.Prelude.{◌≡◌, ◌≢◌, ℕ, ◌+◌, ◌-◌, ◌�
 use Rattle.afl_base.specs.Files.{IsLive, State, file_at, size_at, used}
 use Rattle.afl_base.specs.Regions.{regions}
 
--- so many files are live, and no draft is begun
+-- this many files are live, and no draft is begun
 pub record HasFiles (state : State) (n : ℕ) : Type 0 where
   pub idle : state.draft ≡ None
   pub count : used state.files ≡ n

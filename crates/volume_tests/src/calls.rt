@@ -68,7 +68,7 @@ pub fn erase<V: Files>(files: &mut V, used: &mut u16, name: Name) -> Result<bool
     Ok(true)
 }
 
-/// Puts `bytes` in the place of those from `at` on, and then `tail` behind the last byte, after one
+/// Puts `bytes` in the place of those from `at` on, and then `tail` after the last byte, after one
 /// `prepare` for both. Either may be empty.
 pub fn change<V: Files>(
     files: &mut V,
@@ -109,7 +109,7 @@ pub fn change_behind<V: Files>(
     Ok(true)
 }
 
-// Prepares a file for `bytes` from `at` on and `tail` behind the last byte.
+// Prepares a file for `bytes` from `at` on and `tail` after the last byte.
 fn prepared<V: Files>(
     files: &mut V,
     name: Name,
@@ -200,7 +200,7 @@ pub fn replace<V: Files>(
     Ok(true)
 }
 
-/// Begins a draft of so many zeros for a new file, and writes `bytes` to its front.
+/// Begins a draft of this many zeros for a new file, and writes `bytes` to its front.
 pub fn begin_draft<V: Files>(
     files: &mut V,
     used: u16,
@@ -295,7 +295,7 @@ fn is_kind(kind: Kind) -> bool
     }
 }
 
-// Whether `bytes` may be put at a place of a file of so many bytes, by one call.
+// Whether `bytes` may be put at a place of a file of this many bytes, by one call.
 fn lies_below(at: u32, bytes: &[u8], size: u32) -> bool
     ensures range { IsTrue result → at + length bytes.now ≤ size }
     ensures few { IsTrue result → length bytes.now ≤ 3584 }
@@ -307,7 +307,7 @@ fn lies_below(at: u32, bytes: &[u8], size: u32) -> bool
     bytes.len() <= (size - at) as usize && !ends_in_zero(bytes)
 }
 
-// Whether `tail` may be appended to a file of so many bytes.
+// Whether `tail` may be appended to a file of this many bytes.
 fn is_tail(kind: Kind, size: u32, tail: &[u8]) -> bool
     ensures few { IsTrue result → length tail.now ≤ 4096 }
     ensures most { IsTrue result → size + length tail.now ≤ 4194304 }
@@ -321,7 +321,7 @@ fn is_tail(kind: Kind, size: u32, tail: &[u8]) -> bool
     total <= 4_194_304 && holds(kind, total)
 }
 
-// Whether a file of the kind may have so many bytes.
+// Whether a file of the kind may have this many bytes.
 fn holds(kind: Kind, size: u32) -> bool
     requires { size ≤ 4194304 }
     ensures { IsTrue result → (n : ℕ) → kind ≡ Kind.Fixed n → size + 32 ≤ 256 * n }

@@ -15,7 +15,7 @@ use db_model::{Attribute, Attributes, Domain, Ident, Schema};
 // How far a change of the second slot has come.
 #[derive(Clone, Copy, Default, PartialEq, Eq, Debug)]
 enum Stage {
-    // The slot is unused, and no mark of version 2 stands behind the slots.
+    // The slot is unused, and no mark of version 2 stands after the slots.
     #[default]
     Before,
     // The first of the two regions that the slot touches has its new bytes.

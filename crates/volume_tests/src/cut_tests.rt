@@ -1,4 +1,4 @@
-//! Files behind power cuts: calls of files are cut at each of their writes and in part, and what they leave is mended, by
+//! Files after power cuts: calls of files are cut at each of their writes and in part, and what they leave is mended, by
 //! mending that is cut itself. The files are then those before the call or after it, or a front part of its bytes is in them.
 
 use crate::acts::{Answer, run};
@@ -74,7 +74,7 @@ fn is_between(now: &[u8], before: &[u8], after: &[u8]) -> bool {
     before.len() <= now.len() && now.len() <= after.len() && now.len() <= both
 }
 
-// Whether a file may be so behind a call that was cut.
+// Whether a file may be so after a call that was cut.
 fn may_be(now: &Option<Vec<u8>>, before: &Option<Vec<u8>>, after: &Option<Vec<u8>>) -> bool {
     match (now, before, after) {
         (None, None, _) => true,
@@ -157,7 +157,7 @@ fn front(random: &mut Random) -> usize {
     }
 }
 
-// Takes steps on a flash whose power goes behind so many writes.
+// Takes steps on a flash whose power goes after this many writes.
 fn cut(image: &mut [u8], steps: &[Step], writes: u64, front: usize) -> Answer {
     match CutFlash::new(image, writes, front) {
         Some(flash) => run(flash, steps).1,
@@ -165,7 +165,7 @@ fn cut(image: &mut [u8], steps: &[Step], writes: u64, front: usize) -> Answer {
     }
 }
 
-// Cuts steps at each of their writes, so many times each. How many images were mended, None where one was not.
+// Cuts steps at each of their writes, this many times each. How many images were mended, None where one was not.
 fn cut_everywhere(
     alloc: Global,
     image: &mut Vec<u8>,
@@ -207,7 +207,7 @@ fn lacks_space(alloc: Global, image: &[u8], steps: &[Step]) -> Result<bool, Allo
     Ok(matches!(answer, Answer::Space(_)))
 }
 
-// Cuts each step at each of its writes over an erased flash of so many sectors, up to the first for which there is no space.
+// Cuts each step at each of its writes over an erased flash of this many sectors, up to the first for which there is no space.
 fn cut_all(
     alloc: Global,
     sectors: usize,
@@ -230,7 +230,7 @@ fn cut_all(
     Ok(Some(images))
 }
 
-// All kinds of calls, behind which extents, logs and obsolete pages lie in all sectors.
+// All kinds of calls, after which extents, logs and obsolete pages lie in all sectors.
 fn steps_are_mended(alloc: Global, sectors: usize, times: u32) -> Result<Option<u64>, AllocError> {
     let (a, b, c) = (named(b"A"), named(b"B"), named(b"C"));
     let steps = [
@@ -261,7 +261,7 @@ fn steps_are_mended(alloc: Global, sectors: usize, times: u32) -> Result<Option<
     cut_all(alloc, sectors, &steps, times)
 }
 
-// Whether so many images at least were mended.
+// Whether this many images at least were mended.
 fn are_many(images: Option<u64>, least: u64) -> bool {
     match images {
         Some(images) => least <= images,

@@ -59,7 +59,7 @@ fn pack<V: Files>(files: &mut V, name: Name) -> Result<bool, FileError>
     Ok(tuples.count(files) == 150)
 }
 
-// Whether a change is done by so many programs and erases.
+// Whether a change is done by this many programs and erases.
 fn is_done_by(image: &mut [u8; SIZE], what: Change, writes: u64) -> bool {
     let all = &mut image[..];
     let Some(flash) = CutFlash::new(all, writes, 0) else {
@@ -71,7 +71,7 @@ fn is_done_by(image: &mut [u8; SIZE], what: Change, writes: u64) -> bool {
     }
 }
 
-// Whether it is done by so many, and not by one less.
+// Whether it is done by this many, and not by one less.
 fn takes(image: &mut [u8; SIZE], what: Change, writes: u64) -> bool {
     let mut copy = *image;
     !is_done_by(&mut copy, what, writes.saturating_sub(1)) && is_done_by(image, what, writes)
@@ -82,7 +82,7 @@ fn rows_of_a_draft_are_programmed_many_at_once(rt: HostRuntime) {
     let mut image = erased();
     assert!(rt; make_short_rows(&mut image));
     // The header of the draft, the flag of the draft and that of the file before are one program each.
-    // Between them 900 bytes, behind a header of 32, go 255 at a time: the first three of four pieces cross
+    // Between them 900 bytes, after a header of 32, go 255 at a time: the first three of four pieces cross
     // the end of a page.
     assert!(rt; takes(&mut image, Change::Remove, 10));
     // Of 450 bytes the first of two pieces does.

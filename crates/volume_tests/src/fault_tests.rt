@@ -46,7 +46,7 @@ fn first_other_faults(image: &[u8; SIZE], steps: &[Step]) -> Option<(usize, u64)
     None
 }
 
-// At how many calls of the flash behind its mounting a step fails, each of which is told; or none.
+// At how many calls of the flash after its mounting a step fails, each of which is told; or none.
 fn told_faults(image: &[u8; SIZE], step: &Step, mounting: u64) -> u64 {
     for told in 0..999u64 {
         match answer_with_fault(image, step, mounting.saturating_add(told + 1)) {

@@ -1,4 +1,4 @@
-//! What a cut left of a flash, put right.
+//! What a cut left of a flash, repaired.
 
 use afl_base::Flash;
 use coffee_find::{Judgement, judge};

@@ -63,7 +63,7 @@ pub fn long_row(number: u8) -> Option<Tuple>
     Some(tuple)
 }
 
-/// Appends so many of these rows. It answers whether all were.
+/// Appends this many of these rows. It answers whether all were.
 pub fn insert_long_rows<V: Files>(
     files: &mut V,
     tuples: &Tuples,

@@ -8,7 +8,7 @@ ghost use Rattle.volume_tests.specs.Counts.{HasFiles};
 use crate::calls::{change, erase, make};
 use afl_base::{FileError, Files, Kind, Name};
 
-/// Appends a row so many times, with a `prepare` for each.
+/// Appends a row this many times, with a `prepare` for each.
 pub fn append_rows<V: Files>(
     files: &mut V,
     name: Name,
@@ -41,7 +41,7 @@ pub fn mark_rows<V: Files>(files: &mut V, name: Name, rows: u16) -> Result<bool,
     Ok(true)
 }
 
-/// Makes a file and takes it away so many times.
+/// Makes a file and takes it away this many times.
 pub fn make_and_erase<V: Files>(
     files: &mut V,
     used: &mut u16,

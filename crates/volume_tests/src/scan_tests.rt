@@ -52,7 +52,7 @@ fn pages_read(image: &mut [u8; SIZE], backwards: bool) -> Option<u64> {
 fn reads_in_order_read_each_page_once(rt: HostRuntime) {
     let mut image = erased();
     assert!(rt; make_short_rows(&mut image));
-    // 900 bytes behind a header of 32 lie in 4 pages. The first row is read alone, since no read went before.
+    // 900 bytes after a header of 32 lie in 4 pages. The first row is read alone, since no read went before.
     assert_eq!(rt; pages_read(&mut image, false), Some(5));
     // Backwards each row is read alone, and two of them cross the end of a page.
     assert_eq!(rt; pages_read(&mut image, true), Some(302));

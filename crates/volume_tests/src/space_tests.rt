@@ -8,7 +8,7 @@ use coffee_layout::FileAt;
 
 const ROW: [u8; 5] = [1, 2, 3, 4, 5];
 
-// What making a file of each kind comes to, the two files with the first page behind them that is not
+// What making a file of each kind comes to, the two files with the first page after them that is not
 // free, and what filling the doubling one and a row more come to.
 fn made_and_filled<F: Flash + Drop>(
     flash: Option<F>,
@@ -91,7 +91,7 @@ fn all_are_obsolete<F: Flash>(flash: &mut F) -> bool {
 }
 
 // What making and removing a file 4 times, once more and 35 times more come to; whether no page is free
-// after 4 times; and whether the fifth stands alone behind a collection.
+// after 4 times; and whether the fifth stands alone after a collection.
 fn made_and_removed<F: Flash + Drop>(flash: Option<F>) -> Option<([Answer; 3], bool, bool)> {
     let t0 = named(b"T0");
     let (mut flash, four) = run(flash?, &[Step::MakeAndErase(t0, 4)]);
@@ -111,7 +111,7 @@ fn a_file_is_made_and_removed_40_times_in_the_space_of_four(rt: HostRuntime) {
 }
 
 // What making two files and removing the second comes to, how many sectors a collection erases then, and
-// the only file, with the first pages that are not isolated behind it and not free behind these.
+// the only file, with the first pages that are not isolated after it and not free after these.
 fn isolated<F: Flash + Drop>(
     flash: Option<F>,
 ) -> Option<(Answer, Option<u16>, Option<FileAt>, [Option<u16>; 2])> {

@@ -15,7 +15,7 @@ pub enum Step<'a> {
     Erase(Name),
     /// Puts bytes in the place of others.
     Overwrite(Name, u32, &'a [u8]),
-    /// Appends bytes so many times, with a `prepare` for each.
+    /// Appends bytes this many times, with a `prepare` for each.
     Append(Name, &'a [u8], u16),
     /// Appends bytes, and then puts others in a place, after one `prepare` for both.
     Change(Name, u32, &'a [u8], &'a [u8]),
@@ -23,11 +23,11 @@ pub enum Step<'a> {
     Mark(Name, u16),
     /// Puts a draft of bytes, written in two parts, in the place of a file or beside all others.
     Replace(Name, &'a [u8], usize),
-    /// Makes a file and takes it away so many times.
+    /// Makes a file and takes it away this many times.
     MakeAndErase(Name, u16),
     /// Has these bytes, at most 2,048, at a place.
     Holds(Name, u32, &'a [u8]),
-    /// Stands in a place of the table, with so many bytes.
+    /// Stands in a place of the table, with this many bytes.
     Stands(Name, u16, Kind, u32),
     /// Is no file.
     Lacks(Name),

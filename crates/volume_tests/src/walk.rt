@@ -36,7 +36,7 @@ struct Bytes {
     tail: [u8; 4_096],
 }
 
-/// Takes so many steps over files of two kinds, which have to come out alike. Where the first answer
+/// Takes this many steps over files of two kinds, which have to come out alike. Where the first answer
 /// that no space is left, the others do not take the step. It answers how often that was, and nothing
 /// where they come out otherwise.
 pub fn walk<V: Files, W: Files>(
@@ -261,7 +261,7 @@ fn is_same<V: Files, W: Files>(files: &mut V, others: &mut W, name: Name) -> Res
     Ok(true)
 }
 
-// Whether so many bytes of the files of a name, at most 500, are the same from a place on.
+// Whether this many bytes of the files of a name, at most 500, are the same from a place on.
 fn are_same_bytes<V: Files, W: Files>(
     files: &mut V,
     others: &mut W,

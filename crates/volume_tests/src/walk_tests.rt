@@ -29,7 +29,7 @@ fn lacks_at_times(image: &mut [u8]) -> bool {
     }
 }
 
-// Walks from no file on, and mounts the flash anew after each round of so many steps. It answers how
+// Walks from no file on, and mounts the flash anew after each round of this many steps. It answers how
 // often space was lacking, and nothing where the files differ.
 fn rounds<F: Flash + Drop, W: Files>(
     flash: F,

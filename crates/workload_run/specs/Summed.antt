@@ -1,4 +1,4 @@
--- What a run makes of given commands, behind which it writes one line.
+-- What a run makes of given commands, after which it writes one line.
 use Rattle.std.specs.Prelude.{◌≡◌, ◌⊎◌, ℕ, List, ◌++◌, Option}
 use Rattle.std.specs.Io.KnownBytes.{append_known}
 use Rattle.answering.specs.Carried.{Limits}

@@ -19,7 +19,7 @@ use workload::nth_command;
 /// Why no further command was carried out.
 #[derive(Clone, Copy, Debug, PartialEq, Eq)]
 pub enum Failure {
-    /// No extent of so many pages could be had.
+    /// There was no room for an extent of this many pages.
     NoSpace { need: u16 },
     Flash,
 }

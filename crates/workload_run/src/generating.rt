@@ -16,7 +16,7 @@ use antelope_engine::Session;
 use intake::Ending;
 
 /// Carries out the first `count` commands of a seed, 1 to 100,000. Their replies are counted and not
-/// written; behind all of them comes one line, `commands C ok A rows B refused D`.
+/// written; after all of them comes one line, `commands C ok A rows B refused D`.
 ///
 /// # Errors
 ///
