@@ -17,7 +17,7 @@ use Rattle.coffee_volume.specs.Mounting.{mounted_table, roomless_file}
 use Rattle.coffee_volume.proofs.MountedTables.{mounted_length}
 use Rattle.coffee_volume.proofs.Tables.{length_seen}
 use Rattle.db_model.specs.Database.{Database}
-use Rattle.space_model.specs.FileNames.{bytes_in_file, catalog_file, file_named, rows_file, tree_file}
+use Rattle.space_model.specs.FileNames.{bytes_in_file, catalog_file, file_named, is_there, rows_file, tree_file}
 use Rattle.space_model.proofs.NamedFiles.{named_place}
 use Rattle.stored.specs.CutTables.{IsCutTable}
 use Rattle.stored.specs.Mended.{mended_base}
@@ -29,6 +29,7 @@ use Rattle.sound_image.specs.Images.{IsSound, base, file_from, files_of_image}
 use Rattle.sound_image.specs.Mending.{ImageMendsTo, ImageReadsAs}
 use Rattle.sound_image.proofs.Mounted.{mounted_files}
 use Rattle.sound_image.proofs.OneName.{one_file}
+use Rattle.stored.proofs.SameCut.{same_cut}
 use Rattle.sound_image.proofs.SameFiles.{live_there}
 
 -- ---- files by name
@@ -98,17 +99,40 @@ like_of image files m f has =
       bytes = ap (λ (x : NamedFile). x.bytes) o.2;
     }
 
--- any two tables that an image mends to mend to one database
-pub one_base : (image : List ℕ) (files others : Table) (sectors : ℕ) → length image ≡ 4096 * sectors → MendsToFiles image files → MendsToFiles image others → mended_base files ≡ mended_base others
-one_base image files others sectors size m n =
+-- any two tables that an image mends to have the same files
+alike : (image : List ℕ) (files : Table) (sectors : ℕ) → length image ≡ 4096 * sectors → MendsToFiles image files → AreAlikeByName files
+alike image files sectors size m = λ i j f g e h name.
+    ap (λ (x : NamedFile). x.bytes) (one_file image m.named sectors size m.mends (roomless_file f) (roomless_file g) (held image files m i f e) (held image files m j g h) name)
+
+have_same : (image : List ℕ) (files others : Table) (sectors : ℕ) → length image ≡ 4096 * sectors → MendsToFiles image files → MendsToFiles image others → HaveSameFiles files others
+have_same image files others sectors size m n =
     let same : m.named ≡ n.named = one_list image m.named n.named sectors size m.mends n.mends in
-    sym (mended_of_same files others
-    (λ i j f g e h name. ap (λ (x : NamedFile). x.bytes)
-    (one_file image m.named sectors size m.mends (roomless_file f) (roomless_file g) (held image files m i f e) (held image files m j g h) name))
-    (record {
+    record {
       kept = λ id f e. like_of image others n f (subst (λ fs. Contains fs (roomless_file f)) same (held image files m id f e));
       only = λ id f e. like_of image files m f (subst (λ fs. Contains fs (roomless_file f)) (sym same) (held image others n id f e));
-    }))
+    }
+
+-- they mend to one database
+pub one_base : (image : List ℕ) (files others : Table) (sectors : ℕ) → length image ≡ 4096 * sectors → MendsToFiles image files → MendsToFiles image others → mended_base files ≡ mended_base others
+one_base image files others sectors size m n =
+    sym (mended_of_same files others (alike image files sectors size m) (have_same image files others sectors size m n))
+
+-- the same names are in both
+pub one_there : (image : List ℕ) (files others : Table) (name : List ℕ) (sectors : ℕ) → length image ≡ 4096 * sectors → MendsToFiles image files → MendsToFiles image others
+    → is_there name others ≡ is_there name files
+one_there image files others name sectors size m n = (same_named files others name (alike image files sectors size m) (have_same image files others sectors size m n)).0
+
+-- and where a cut can have left the one, it can have left the other
+pub one_cut : (image : List ℕ) (files others : Table) (sectors : ℕ) → length image ≡ 4096 * sectors → MendsToFiles image files → MendsToFiles image others → IsCutTable files → IsCutTable others
+one_cut image files others sectors size m n cut =
+    let same = have_same image files others sectors size m n in
+    let named = same_named files others in
+    same_cut files others (record {
+      there = λ name. (named name (alike image files sectors size m) same).0;
+      bytes = λ name. (named name (alike image files sectors size m) same).1;
+      only = same.only;
+    })
+    cut
 
 -- ---- the table of an image
 

@@ -16,7 +16,7 @@ use Rattle.coffee_cuts.proofs.TwoMarks.{obsoleted_long as gone_long}
 flagged_long : (image : List ℕ) (page flag : ℕ) → length (flagged image page flag) ≡ length image
 flagged_long image page flag = length_or_at image (256 * page + 9) (flag ∷ [])
 
-settled_long : (image : List ℕ) (under_way : UnderWay) → IsFound image under_way → length (settled image under_way) ≡ length image
+pub settled_long : (image : List ℕ) (under_way : UnderWay) → IsFound image under_way → length (settled image under_way) ≡ length image
 settled_long image Nothing f = refl
 settled_long image (Beginning page) f = flagged_long image page 34
 settled_long image (Building page) f = flagged_long image page 5

@@ -10,6 +10,7 @@ pub mod MendedSound
 pub mod MendedTables
 pub mod NamesStay
 pub mod SameBase
+pub mod SameCut
 pub mod SoundBase
 pub mod SoundCut
 pub mod SoundSlots

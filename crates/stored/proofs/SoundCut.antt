@@ -23,7 +23,6 @@ use Rattle.stored.proofs.MendedBase.{whole_long}
 use Rattle.stored.proofs.MendedSound.{mended_of_sound}
 use Rattle.stored.proofs.SoundSlots.{IsUnbroken, kept, slot_below, unbroken_slots}
 use Rattle.stored.specs.CutTables.{HoldsRowsOr, IsBegun, IsCutTable, IsHalfDone, IsIndexWhile, IsSlot, index_read, relation}
-use Rattle.stored.specs.declared.half.Half.{Half}
 use Rattle.stored.specs.declared.half.Half.TheVariants.{Nothing}
 
 same_used : (there used : Bool) → differ there used ≡ false → there ≡ used

@@ -8,7 +8,6 @@ use Rattle.db_model.specs.declared.schemas.Domain.TheVariants.{Time}
 use Rattle.db_model.specs.declared.schemas.IndexKind.TheVariants.{MaxHeap}
 use Rattle.db_model.specs.declared.schemas.Schema.{Schema}
 use Rattle.db_model.specs.Catalog.{Catalog, Index, IsAttribute, IsRelation, attribute_bytes, catalog_bytes, catalog_of, relation_slot_bytes, version_mark, version_of}
-use Rattle.db_model.specs.Database.{Database}
 use Rattle.db_model.specs.Row.{row_length, slots_in_bytes}
 use Rattle.db_model.specs.Step.{keys}
 pub use Rattle.index_tree.specs.TreeFile.{NamesOnly}

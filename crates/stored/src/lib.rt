@@ -21,12 +21,15 @@ ghost use Rattle.stored.specs.Sound.{BreaksFirst, IsSoundTable};
 
 pub use half::Half;
 
-/// Which database files stand for, and whether they are sound, does not depend on their order.
+/// Which database files stand for, whether they are sound, and whether a cut can have left them, does not depend on their
+/// order.
 pub fn order_of_files_does_not_matter()
     ensures base { (old new : Table) → AreDistinct old → AreDistinct new → HaveSameFiles old new
         → base_of old ≡ base_of new }
     ensures sound { (old new : Table) → AreDistinct old → AreDistinct new → HaveSameFiles old new
         → length old ≡ 32 → IsSoundTable old → IsSoundTable new }
+    ensures cut { (old new : Table) → AreDistinct old → AreDistinct new → HaveSameFiles old new
+        → IsCutTable old → IsCutTable new }
 {}
 
 /// Sound files have no first broken rule.
