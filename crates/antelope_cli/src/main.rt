@@ -1,6 +1,6 @@
 //! `antelope`: a relational database on an image of a flash.
 //!
-//! The program writes nothing but what `antelope_run::top` and `repair_run::repair` write, and nothing on standard error;
+//! The program writes nothing but what `antelope_run::top` and `run_repair::repair` write, and nothing on standard error;
 //! README.md lists the statuses that it ends with. What is on the disk then:
 //!
 //! - 0, 3: the image as the run left it.

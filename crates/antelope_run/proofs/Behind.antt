@@ -6,9 +6,9 @@ use Rattle.afl_base.specs.declared.fault.Fault.{Fault}
 use Rattle.afl_base.specs.declared.fault.Fault.TheVariants as fault
 use Rattle.dump.proofs.Items.{appends_behind, appends_front, held_behind}
 use Rattle.dump.specs.Appends.{AppendsText}
-use Rattle.intake.specs.declared.ending.Ending.TheVariants.{Space, Flash, Sink}
-use Rattle.intake.specs.declared.ending.InputEnding.{InputEnding}
-use Rattle.intake.specs.declared.ending.InputEnding.TheVariants.{Input, Long, Early}
+use Rattle.run_input.specs.declared.ending.Ending.TheVariants.{Space, Flash, Sink}
+use Rattle.run_input.specs.declared.ending.InputEnding.{InputEnding}
+use Rattle.run_input.specs.declared.ending.InputEnding.TheVariants.{Input, Long, Early}
 use Rattle.reply_text.proofs.Pieces.{less_behind, less_front}
 use Rattle.run_words.specs.declared.words.Form.{Form}
 use Rattle.run_words.specs.declared.words.Form.TheVariants.{Run, Gen, Plan, Serve, Dump, Look}

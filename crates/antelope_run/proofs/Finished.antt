@@ -7,16 +7,16 @@ use Rattle.db_model.specs.declared.commands.Command.{Command}
 use Rattle.db_model.specs.Between.{IsBetween}
 use Rattle.db_model.specs.Database.{Database, bare}
 use Rattle.db_model.specs.ReplyText.{text}
-use Rattle.intake.specs.declared.ending.Ending.TheVariants.{Space, Flash, Sink}
-use Rattle.intake.specs.declared.ending.InputEnding.{InputEnding}
-use Rattle.intake.specs.declared.ending.InputEnding.TheVariants.{Input, Long, Early}
+use Rattle.run_input.specs.declared.ending.Ending.TheVariants.{Space, Flash, Sink}
+use Rattle.run_input.specs.declared.ending.InputEnding.{InputEnding}
+use Rattle.run_input.specs.declared.ending.InputEnding.TheVariants.{Input, Long, Early}
 use Rattle.reply_text.proofs.Pieces.{append_known-twice}
 use Rattle.reply_text.specs.WroteLess.{WroteLess}
 use Rattle.sound_image.specs.Images.{base}
 use Rattle.sound_image.specs.Mending.{ImageMendsTo}
-use Rattle.answering.proofs.Composed.{part_written}
-use Rattle.answering.specs.Carried.{Carried, FoundNoRoom, Limits, SaidLess, SaidNone, Standing, Stopped, no_space}
-use Rattle.answering.specs.Went.{CarriedAll, ReachedLimit, TookSome, Went, StoppedWithin}
+use Rattle.run_entries.proofs.Composed.{part_written}
+use Rattle.run_entries.specs.Carried.{Carried, FoundNoRoom, Limits, SaidLess, SaidNone, Standing, Stopped, no_space}
+use Rattle.run_entries.specs.Went.{CarriedAll, ReachedLimit, TookSome, Went, StoppedWithin}
 use Rattle.run_model.specs.Line.{Line}
 use Rattle.run_model.specs.Runs.{CarriedOut, FoundNoSpace, InputBrokenOff, InputCutOff, InputEnded, InputFaulted, InputFoundNoSpace, InputTooLong, InputUnsaid, ReplyUnsaid, SpaceUnsaid, StopsAt, World, WroteFrom, WroteInFront, WroteWithin, machine_from, world}
 use Rattle.run_model.specs.Talk.{Talk, after_entry, last_database, talk_output}

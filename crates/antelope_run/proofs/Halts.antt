@@ -3,16 +3,16 @@ use Rattle.std.proofs.Common.{◌≡◌, ◌≢◌, ℕ, Bool, true, false, List
 use Rattle.std.specs.Prelude.{⊤, IfErr, IsErrOf, OnOk, Result, Ok, Err}
 use Rattle.db_model.specs.declared.commands.Command.{Command}
 use Rattle.dump.specs.Appends.{AppendsText}
-use Rattle.intake.specs.declared.ending.Ending.{Ending}
-use Rattle.intake.specs.declared.ending.Ending.TheVariants as halt
-use Rattle.intake.specs.declared.ending.InputEnding.{InputEnding}
-use Rattle.intake.specs.declared.ending.InputEnding.TheVariants.{Input, Long, Early}
+use Rattle.run_input.specs.declared.ending.Ending.{Ending}
+use Rattle.run_input.specs.declared.ending.Ending.TheVariants as halt
+use Rattle.run_input.specs.declared.ending.InputEnding.{InputEnding}
+use Rattle.run_input.specs.declared.ending.InputEnding.TheVariants.{Input, Long, Early}
 use Rattle.afl_base.specs.declared.fault.Fault.{Fault}
 use Rattle.afl_base.specs.declared.fault.Fault.TheVariants as fault
 use Rattle.session_model.specs.Steps.{HasFaultCause, UnlessFlash}
-use Rattle.answering.specs.Carried.{HasHaltCause, Limits, Standing}
-use Rattle.answering.specs.Went.{HasRunCause, Reaches}
-use Rattle.workload_run.specs.Summed.{StopsCommands, SummedUp}
+use Rattle.run_entries.specs.Carried.{HasHaltCause, Limits, Standing}
+use Rattle.run_entries.specs.Went.{HasRunCause, Reaches}
+use Rattle.run_generated.specs.Summed.{StopsCommands, SummedUp}
 use Rattle.run_words.specs.declared.words.Form.{Form}
 use Rattle.antelope_run.specs.Does.{Generates, OnlyHalts, WritesText, halted, stopped}
 use Rattle.antelope_run.specs.Promise.{TakesInput}

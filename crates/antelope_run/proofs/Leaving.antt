@@ -10,23 +10,23 @@ use Rattle.db_model.specs.ReplyText.{refusal_text}
 use Rattle.db_model.specs.Step.{after_all}
 use Rattle.db_model.specs.Workload.{first_commands}
 use Rattle.dump_model.specs.Script.{script}
-use Rattle.look.specs.Text.{database_lines, flash_line, look_text}
-use Rattle.intake.specs.declared.ending.Ending.TheVariants.{Space, Flash, Sink}
-use Rattle.intake.specs.declared.ending.InputEnding.{InputEnding}
-use Rattle.intake.specs.declared.ending.InputEnding.TheVariants.{Input, Long, Early}
+use Rattle.run_look.specs.Text.{database_lines, flash_line, look_text}
+use Rattle.run_input.specs.declared.ending.Ending.TheVariants.{Space, Flash, Sink}
+use Rattle.run_input.specs.declared.ending.InputEnding.{InputEnding}
+use Rattle.run_input.specs.declared.ending.InputEnding.TheVariants.{Input, Long, Early}
 use Rattle.reply_text.proofs.Pieces.{append_known-nil}
 use Rattle.reply_text.specs.WroteLess.{WroteLess}
 use Rattle.sound_image.specs.Images.{IsSound, base}
 use Rattle.sound_image.specs.Mending.{ImageMendsTo}
-use Rattle.answering.specs.Carried.{Limits, Standing}
-use Rattle.answering.specs.Went.{Went}
+use Rattle.run_entries.specs.Carried.{Limits, Standing}
+use Rattle.run_entries.specs.Went.{Went}
 use Rattle.run_model.specs.Line.{Line}
 use Rattle.run_model.specs.Runs.{CarriedOut, FoundNoSpace, SpaceUnsaid, StandsAfter, StopsAt, World, WroteWithin, world}
 use Rattle.run_model.specs.Talk.{Talk}
 use Rattle.space_plan.specs.Lines.{plan_reply}
-use Rattle.workload_run.specs.Counted as counted
-use Rattle.workload_run.specs.Summed.{summed}
-use Rattle.workload_run.specs.Summed as sums
+use Rattle.run_generated.specs.Counted as counted
+use Rattle.run_generated.specs.Summed.{summed}
+use Rattle.run_generated.specs.Summed as sums
 use Rattle.run_words.specs.declared.words.Form.{Form}
 use Rattle.run_words.specs.declared.words.Form.TheVariants.{Run, Gen, Plan, Serve, Dump, Look}
 use Rattle.antelope_run.specs.declared.came.Came.TheVariants.{Opened}

@@ -4,14 +4,14 @@ use Rattle.std.specs.Prelude.{Ok, Err}
 use Rattle.std.proofs.lemmas.List.{length-append}
 use Rattle.std.specs.Io.KnownBytes.{IsAtEnd}
 use Rattle.afl_base.specs.Causes.{Rose}
-use Rattle.intake.specs.declared.ending.Ending.TheVariants.{Space, Flash, Sink}
-use Rattle.intake.specs.declared.ending.InputEnding.TheVariants.{Input, Long, Early}
+use Rattle.run_input.specs.declared.ending.Ending.TheVariants.{Space, Flash, Sink}
+use Rattle.run_input.specs.declared.ending.InputEnding.TheVariants.{Input, Long, Early}
 use Rattle.run_model.specs.Runs.{CameToLimit, World}
 use Rattle.run_model.specs.Scripts.{script_cut, script_line, script_talk}
 use Rattle.run_model.proofs.Parts.{script_parts}
-use Rattle.serve_model.specs.Frames.{frame_cut, frame_line}
-use Rattle.serve_model.specs.Served.{serve_talk}
-use Rattle.serve_model.proofs.Ending.{frame_parts}
+use Rattle.run_frames.specs.Frames.{frame_cut, frame_line}
+use Rattle.run_frames.specs.Served.{serve_talk}
+use Rattle.run_frames.proofs.Ending.{frame_parts}
 use Rattle.sound_image.specs.Images.{IsSound, base}
 use Rattle.sound_image.proofs.Judged.{sound_unbroken}
 use Rattle.antelope_run.specs.declared.came.Came.{Came}

@@ -4,13 +4,13 @@ use Rattle.db_model.specs.Ahead.{Aheads, no_cursors}
 use Rattle.db_model.specs.Database.{Database}
 use Rattle.db_model.specs.RunCost.{opening_cost}
 use Rattle.dump.specs.Parts.{slots_of_all}
-use Rattle.answering.specs.Carried.{Standing}
+use Rattle.run_entries.specs.Carried.{Standing}
 use Rattle.run_model.specs.Line.{Line}
 use Rattle.run_model.specs.Runs.{ReadsWithin, world}
 use Rattle.run_model.specs.Talk.{Talk, talk_costs}
 use Rattle.run_model.specs.Scripts.{script_line, script_talk}
-use Rattle.serve_model.specs.Frames.{frame_line}
-use Rattle.serve_model.specs.Served.{serve_talk}
+use Rattle.run_frames.specs.Frames.{frame_line}
+use Rattle.run_frames.specs.Served.{serve_talk}
 use Rattle.sound_image.specs.Images.{IsSound, base}
 use Rattle.run_words.specs.declared.words.Form.{Form}
 use Rattle.run_words.specs.declared.words.Form.TheVariants.{Run, Gen, Plan, Serve, Dump, Look}

@@ -3,7 +3,7 @@ use Rattle.std.proofs.Common.{◌≡◌, ◌⊎◌, inl, inr, ℕ, [], refl, sub
 use Rattle.std.specs.Prelude.{⊤, Result}
 use Rattle.std.specs.Io.KnownBytes.{append_known}
 use Rattle.afl_base.specs.Causes.{Rose}
-use Rattle.intake.specs.declared.ending.InputEnding.{InputEnding}
+use Rattle.run_input.specs.declared.ending.InputEnding.{InputEnding}
 use Rattle.reply_text.proofs.Pieces.{append_known-nil}
 use Rattle.reply_text.specs.WroteLess.{WroteLess}
 use Rattle.run_model.specs.Runs.{World, image_line}

@@ -9,24 +9,24 @@ use Rattle.db_model.specs.declared.commands.Command.{Command}
 use Rattle.db_model.specs.Workload.{first_commands}
 use Rattle.dump.specs.Parts.{slots_of_all}
 use Rattle.dump_model.specs.Script.{script}
-use Rattle.look.specs.Text.{database_lines}
-use Rattle.intake.specs.declared.ending.Ending.{Ending}
-use Rattle.intake.specs.declared.ending.Ending.TheVariants.{Space, Flash, Sink}
-use Rattle.intake.specs.declared.ending.InputEnding.{InputEnding}
-use Rattle.intake.specs.declared.ending.InputEnding.TheVariants.{Input, Long, Early}
+use Rattle.run_look.specs.Text.{database_lines}
+use Rattle.run_input.specs.declared.ending.Ending.{Ending}
+use Rattle.run_input.specs.declared.ending.Ending.TheVariants.{Space, Flash, Sink}
+use Rattle.run_input.specs.declared.ending.InputEnding.{InputEnding}
+use Rattle.run_input.specs.declared.ending.InputEnding.TheVariants.{Input, Long, Early}
 use Rattle.reply_text.specs.WroteLess.{WroteLess}
 use Rattle.afl_base.specs.declared.fault.Fault.{Fault}
 use Rattle.afl_base.specs.declared.fault.Fault.TheVariants as fault
 use Rattle.session_model.specs.Steps.{WrotePart}
-use Rattle.answering.specs.Carried.{Limits, Standing}
-use Rattle.answering.specs.Went.{HasRunCause, Went}
+use Rattle.run_entries.specs.Carried.{Limits, Standing}
+use Rattle.run_entries.specs.Went.{HasRunCause, Went}
 use Rattle.run_model.specs.Line.{Line}
 use Rattle.run_model.specs.Scripts.{script_line, script_talk}
 use Rattle.run_model.specs.Talk.{AsksToRead, Talk, talk_costs}
-use Rattle.serve_model.specs.Frames.{frame_line}
-use Rattle.serve_model.specs.Served.{serve_talk}
+use Rattle.run_frames.specs.Frames.{frame_line}
+use Rattle.run_frames.specs.Served.{serve_talk}
 use Rattle.space_plan.specs.Lines.{plan_reply}
-use Rattle.workload_run.specs.Summed.{StopsCommands, SummedUp}
+use Rattle.run_generated.specs.Summed.{StopsCommands, SummedUp}
 use Rattle.run_words.specs.declared.words.Form.{Form}
 use Rattle.run_words.specs.declared.words.Form.TheVariants.{Run, Gen, Plan, Serve, Dump, Look}
 use Rattle.antelope_run.specs.Endings.{OnReader}

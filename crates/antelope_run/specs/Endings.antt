@@ -10,22 +10,22 @@ use Rattle.db_model.specs.ReplyText.{refusal_text}
 use Rattle.db_model.specs.Step.{after_all}
 use Rattle.db_model.specs.Workload.{first_commands}
 use Rattle.dump_model.specs.Script.{script}
-use Rattle.intake.specs.declared.ending.Ending.TheVariants.{Space, Flash, Sink}
-use Rattle.intake.specs.declared.ending.InputEnding.{InputEnding}
-use Rattle.intake.specs.declared.ending.InputEnding.TheVariants.{Input, Long, Early}
-use Rattle.look.specs.Text.{look_text}
+use Rattle.run_input.specs.declared.ending.Ending.TheVariants.{Space, Flash, Sink}
+use Rattle.run_input.specs.declared.ending.InputEnding.{InputEnding}
+use Rattle.run_input.specs.declared.ending.InputEnding.TheVariants.{Input, Long, Early}
+use Rattle.run_look.specs.Text.{look_text}
 use Rattle.run_model.specs.Line.{Line}
 use Rattle.run_model.specs.Runs.{BreaksOffAt, CarriedOut, FoundNoSpace, InputBrokenOff, InputCutOff, InputEnded, InputFaulted, InputFoundNoSpace, InputTooLong, InputUnsaid, Machine, SpaceUnsaid, StandsAfter, World, WroteInFront, WroteWithin}
 use Rattle.run_model.specs.Scripts.{script_line, script_talk}
 use Rattle.run_model.specs.Talk.{Talk}
 use Rattle.run_words.specs.declared.words.Form.{Form}
 use Rattle.run_words.specs.declared.words.Form.TheVariants.{Run, Gen, Plan, Serve, Dump, Look}
-use Rattle.serve_model.specs.Frames.{frame_line}
-use Rattle.serve_model.specs.Served.{serve_talk}
+use Rattle.run_frames.specs.Frames.{frame_line}
+use Rattle.run_frames.specs.Served.{serve_talk}
 use Rattle.sound_image.specs.Images.{base}
 use Rattle.space_plan.specs.declared.further.FurtherRows.{FurtherRows}
 use Rattle.space_plan.specs.Lines.{plan_reply}
-use Rattle.workload_run.specs.Summed.{summed}
+use Rattle.run_generated.specs.Summed.{summed}
 
 -- whatever reads the bytes of commands as they are to be read
 abbrev pub OnReader : ((List ℕ → Result Command Refusal) → Type 0) → Type 0

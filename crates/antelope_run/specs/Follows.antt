@@ -3,9 +3,9 @@ use Rattle.std.specs.Prelude.{◌≡◌, ◌≤◌, ◌⊎◌, ⊤, ℕ, Bool, t
 use Rattle.afl_base.specs.declared.flash.Flash.{Ghosts as FlashOf}
 use Rattle.afl_base.specs.declared.stream.Sink.{Ghosts as SinkOf}
 use Rattle.afl_base.specs.Causes.{Rose}
-use Rattle.intake.specs.declared.ending.Ending.TheVariants.{Flash, Sink}
-use Rattle.intake.specs.declared.ending.InputEnding.{InputEnding}
-use Rattle.intake.specs.declared.ending.InputEnding.TheVariants.{Input, Early}
+use Rattle.run_input.specs.declared.ending.Ending.TheVariants.{Flash, Sink}
+use Rattle.run_input.specs.declared.ending.InputEnding.{InputEnding}
+use Rattle.run_input.specs.declared.ending.InputEnding.TheVariants.{Input, Early}
 use Rattle.run_words.specs.declared.words.Form.{Form}
 use Rattle.run_words.specs.declared.words.Form.TheVariants.{Look}
 use Rattle.antelope_run.specs.Does.{Wrote}

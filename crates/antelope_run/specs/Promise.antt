@@ -11,17 +11,17 @@ use Rattle.db_model.specs.Reading.{IsReader}
 use Rattle.db_model.specs.RunCost.{opening_cost}
 use Rattle.db_model.specs.Workload.{first_commands}
 use Rattle.dump.specs.Parts.{slots_of_all}
-use Rattle.intake.specs.declared.ending.Ending.TheVariants.{Space, Flash, Sink}
-use Rattle.intake.specs.declared.ending.InputEnding.{InputEnding}
-use Rattle.intake.specs.declared.ending.InputEnding.TheVariants.{Input, Long, Early}
+use Rattle.run_input.specs.declared.ending.Ending.TheVariants.{Space, Flash, Sink}
+use Rattle.run_input.specs.declared.ending.InputEnding.{InputEnding}
+use Rattle.run_input.specs.declared.ending.InputEnding.TheVariants.{Input, Long, Early}
 use Rattle.run_model.specs.Line.{Line}
 use Rattle.run_model.specs.Runs.{CameToLimit, HasEnough, ReadsWithin, RefusalUnsaid, Refuses, World, machine_from, world}
 use Rattle.run_model.specs.Scripts.{script_line, script_talk}
 use Rattle.run_model.specs.Talk.{Talk}
 use Rattle.run_words.specs.declared.words.Form.{Form}
 use Rattle.run_words.specs.declared.words.Form.TheVariants.{Run, Gen, Plan, Serve, Dump, Look}
-use Rattle.serve_model.specs.Frames.{frame_line}
-use Rattle.serve_model.specs.Served.{serve_talk}
+use Rattle.run_frames.specs.Frames.{frame_line}
+use Rattle.run_frames.specs.Served.{serve_talk}
 use Rattle.sound_image.specs.Images.{IsSound, base}
 use Rattle.antelope_run.specs.declared.came.Came.{Came}
 use Rattle.antelope_run.specs.declared.came.Came.TheVariants.{Opened, Refused, Unsaid, Failed}

@@ -18,11 +18,11 @@ use crate::carrying::carry_out;
 use crate::closing::close;
 use crate::following::{is_look, tell_flash};
 use afl_base::{Failed, Flash, Sink, Source};
-use answering::write_image_line;
 use antelope_engine::Session;
 use coffee_volume::{MountError, Volume};
 use flash_views::Handed;
-use intake::{Ending, InputEnding};
+use run_entries::write_image_line;
+use run_input::{Ending, InputEnding};
 use run_words::{Form, form};
 use sound_image::mounted_files_are_the_images;
 

@@ -1,4 +1,4 @@
-use intake::InputEnding;
+use run_input::InputEnding;
 
 /// What a run came to whose words are those of a form.
 #[derive(Clone, Copy, PartialEq, Eq, Debug)]

@@ -3,14 +3,14 @@
 #![tactic(auto)]
 
 ghost use Rattle.std.specs.Prelude.{◌≡◌, ◌≤◌, ◌+◌, ◌*◌, false, true, ℕ, Err, IsTrue, Some, length};
-ghost use Rattle.answering.specs.Carried.{limits_of, standing_of};
-ghost use Rattle.answering.specs.Went.{HasRunCause};
+ghost use Rattle.run_entries.specs.Carried.{limits_of, standing_of};
+ghost use Rattle.run_entries.specs.Went.{HasRunCause};
 ghost use Rattle.db_model.specs.Workload.{first_commands};
 ghost use Rattle.dump.specs.Parts.{slots_of_all};
 ghost use Rattle.dump_model.specs.Script.{script};
-ghost use Rattle.look.specs.Text.{database_lines};
-ghost use Rattle.intake.specs.declared.ending.Ending.TheVariants as Ending;
-ghost use Rattle.intake.specs.declared.ending.InputEnding.TheVariants as InputEnding;
+ghost use Rattle.run_look.specs.Text.{database_lines};
+ghost use Rattle.run_input.specs.declared.ending.Ending.TheVariants as Ending;
+ghost use Rattle.run_input.specs.declared.ending.InputEnding.TheVariants as InputEnding;
 ghost use Rattle.space_plan.specs.Lines.{plan_reply};
 ghost use Rattle.run_words.specs.declared.words.Form.TheVariants as Form;
 ghost use Rattle.antelope_run.specs.Does.{CarriedReads, DoesForm, Generates, LeavesInput, OnlyTells, TellsOn, WritesText, halted, stopped};
@@ -20,12 +20,12 @@ ghost use Rattle.run_words.specs.Words.{HasFewCommands};
 
 use afl_base::{Failed, Fault, Files, Sink, Source};
 use antelope_engine::Session;
-use intake::{Ending, InputEnding};
+use run_generated::generate;
+use run_input::{Ending, InputEnding};
+use run_script::answer_script;
 use run_words::Form;
-use script_run::run_script;
 use serve::serve_line;
 use space_plan::FurtherRows;
-use workload_run::generate;
 
 /// Carries out what a form asks for on a flash of this many sectors.
 // Not inlined, since its caller would keep a second session on its stack.
@@ -59,7 +59,7 @@ pub fn carry_out<V: Files, S: Source, K: Sink>(
         (V.faults session.old.files) (V.faults session.new.files) (K.faults out.old) (K.faults out.new) result }
 {
     match form {
-        Form::Run => run_script(session, input, out),
+        Form::Run => answer_script(session, input, out),
         Form::Serve => serve_line(session, input, out),
         Form::Gen { seed, count } => generate_all(session, seed, count, out),
         Form::Plan { rows } => plan(session, &rows, sectors, out),
@@ -153,7 +153,7 @@ fn look_all<V: Files, K: Sink>(session: &mut Session<V>, out: &mut K) -> Result<
     ensures later { K.faults out.old ≤ K.faults out.new }
     ensures frame { LeavesInput V.Files K.Sink session.old session.new out.old out.new result }
 {
-    stopped(look::write_database(session, out))
+    stopped(run_look::write_database(session, out))
 }
 
 pub fn stopped(done: Result<(), Fault>) -> Result<(), InputEnding>

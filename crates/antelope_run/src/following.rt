@@ -7,11 +7,11 @@ ghost use Rattle.antelope_run.specs.Does.{OnlyHalts, Wrote};
 ghost use Rattle.antelope_run.specs.Follows.{Follows, WritesBehind, is_look};
 ghost use Rattle.coffee_layout.specs.Rules.{broken_image};
 ghost use Rattle.coffee_layout.specs.Units.{pages_of};
-ghost use Rattle.look.specs.Text.{flash_line};
+ghost use Rattle.run_look.specs.Text.{flash_line};
 
 use crate::carrying::stopped;
 use afl_base::{Flash, Sink};
-use intake::InputEnding;
+use run_input::InputEnding;
 use run_words::Form;
 
 // Whether the words ask what stands on an image.
@@ -59,5 +59,5 @@ fn write_line<F: Flash, K: Sink>(flash: &mut F, out: &mut K) -> Result<(), Input
     ensures reads { F.reads flash.new ≤ F.reads flash.old + pages_of (F.image flash.old) }
     ensures frame { Follows F.Flash K.Sink flash.old flash.new out.old out.new (Ok tt) result }
 {
-    stopped(look::write_flash(flash, out))
+    stopped(run_look::write_flash(flash, out))
 }

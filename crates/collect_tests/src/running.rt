@@ -3,8 +3,8 @@
 use afl_base::Flash;
 use afl_sim::{CutFlash, MemSink, MemSource};
 use antelope_run::top;
-use collect_run::collect;
-use repair_run::repair;
+use run_collect::collect;
+use run_repair::repair;
 use std::alloc::{AllocError, Global};
 
 const SECTOR: usize = 4_096;

@@ -4,7 +4,7 @@
 use afl_base::Flash;
 use afl_sim::{CutFlash, MemSink, MemSource};
 use antelope_run::top;
-use repair_run::{check, repair};
+use run_repair::{check, repair};
 use std::alloc::{AllocError, Global};
 
 const SECTOR: usize = 4_096;

@@ -1,10 +1,10 @@
 -- What a run says of the memory that was lent.
 use Rattle.std.proofs.Common.{◌≡◌, ◌⊎◌, ℕ, List, [], Some, inl, inr, subst, sym, take}
 use Rattle.antelope_run.specs.Promise.{HasSpace, LeftBy}
-use Rattle.collect_run.specs.Collects.{Collects}
+use Rattle.run_collect.specs.Collects.{Collects}
 use Rattle.lent.specs.Memory.{LeavesMemory}
-use Rattle.repair_run.specs.Checks.{Checks}
-use Rattle.repair_run.specs.Repairs.{Repairs}
+use Rattle.run_repair.specs.Checks.{Checks}
+use Rattle.run_repair.specs.Repairs.{Repairs}
 use Rattle.run_model.specs.Runs.{world}
 use Rattle.run_words.specs.declared.words.Form.{Form}
 

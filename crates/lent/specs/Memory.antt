@@ -2,9 +2,9 @@
 use Rattle.std.specs.Prelude.{◌≡◌, ◌≢◌, ◌↔◌, ◌⊎◌, ℕ, ◌≤◌, List, [], length, take, Option, Some}
 use Rattle.afl_sim.specs.Lengths.{IsImageLength}
 use Rattle.antelope_run.specs.Promise.{HasSpace, IsWithinLimit, LeftBy}
-use Rattle.collect_run.specs.Collects.{Collects}
-use Rattle.repair_run.specs.Checks.{Checks}
-use Rattle.repair_run.specs.Repairs.{Repairs}
+use Rattle.run_collect.specs.Collects.{Collects}
+use Rattle.run_repair.specs.Checks.{Checks}
+use Rattle.run_repair.specs.Repairs.{Repairs}
 use Rattle.run_model.specs.Runs.{world}
 use Rattle.run_words.specs.declared.words.Form.{Form}
 use Rattle.sound_image.specs.Images.{IsSound}

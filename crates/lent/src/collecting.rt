@@ -1,19 +1,19 @@
 ghost use Rattle.std.specs.Prelude.{◌≡◌, ◌≢◌, ◌↔◌, ◌⊎◌, ◌≤◌, [], IsTrue, Some, length, take};
 ghost use Rattle.afl_base.specs.Causes.{Rose};
 ghost use Rattle.afl_sim.specs.Lengths.{IsImageLength};
-ghost use Rattle.collect_run.specs.Collects.{Collects, IsCollectStatus};
+ghost use Rattle.run_collect.specs.Collects.{Collects, IsCollectStatus};
 ghost use Rattle.lent.specs.Memory.{IsLentCollectStatus};
 
 use crate::ended::Ended;
 use crate::flash::LentFlash;
 use crate::length::sectors_of;
 use crate::sink::LentSink;
-use collect_run::collect;
+use run_collect::collect;
 
 /// Erases each sector of the image in `image` that a collection takes, and puts the line that says how many in
 /// front of `replies`.
 ///
-/// The statuses 0 and 6 are those of `collect_run::collect`. 5 comes only where `replies` is full, and 10
+/// The statuses 0 and 6 are those of `run_collect::collect`. 5 comes only where `replies` is full, and 10
 /// exactly where `image` is not 4 to 4,095 sectors long; nothing was read or written then.
 pub fn collect_lent(image: &mut [u8], replies: &mut [u8]) -> Ended
     ensures only { IsLentCollectStatus result.status }

@@ -2,9 +2,9 @@
 use Rattle.std.specs.Prelude.{◌⊎◌, ◌≡◌, ℕ, List, [], ◌∷◌, Option, Some, None, if◌then◌else◌, codes}
 use Rattle.std.specs.String.{string_bytes}
 use Rattle.std.specs.declared.string.String.{String}
-use Rattle.collect_run.specs.Collects.{Collects, IsCollectStatus}
-use Rattle.repair_run.specs.Checks.{Checks, IsCheckStatus}
-use Rattle.repair_run.specs.Repairs.{IsRepairStatus, Repairs}
+use Rattle.run_collect.specs.Collects.{Collects, IsCollectStatus}
+use Rattle.run_repair.specs.Checks.{Checks, IsCheckStatus}
+use Rattle.run_repair.specs.Repairs.{IsRepairStatus, Repairs}
 use Rattle.run_words.specs.Words.{is_literal_word}
 use Rattle.program_run.specs.declared.naming.Upkeep.{Upkeep}
 use Rattle.program_run.specs.declared.naming.Upkeep.TheVariants.{Repair, Check, Collect}

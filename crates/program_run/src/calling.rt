@@ -4,10 +4,10 @@
 
 ghost use Rattle.std.specs.Prelude.{◌≡◌, ◌⊎◌, ◌↔◌, IfSome, IsTrue, None, Some};
 ghost use Rattle.antelope_run.specs.Promise.{IsStatus, LeftBy};
-ghost use Rattle.collect_run.specs.Collects.{Collects, IsCollectStatus};
+ghost use Rattle.run_collect.specs.Collects.{Collects, IsCollectStatus};
 ghost use Rattle.program_run.specs.Upkeep.{IsUpkeepStatus, Keeps, upkeep_of};
-ghost use Rattle.repair_run.specs.Checks.{Checks, IsCheckStatus};
-ghost use Rattle.repair_run.specs.Repairs.{IsRepairStatus, Repairs};
+ghost use Rattle.run_repair.specs.Checks.{Checks, IsCheckStatus};
+ghost use Rattle.run_repair.specs.Repairs.{IsRepairStatus, Repairs};
 ghost use Rattle.run_model.specs.Runs.{world};
 ghost use Rattle.run_words.specs.declared.words.Form.{Form};
 ghost use Rattle.run_words.specs.Words.{form_of};
@@ -15,8 +15,8 @@ ghost use Rattle.run_words.specs.Words.{form_of};
 use crate::naming::{Upkeep, upkeep_of};
 use afl_base::{Flash, Sink, Source};
 use antelope_run::top;
-use collect_run::collect;
-use repair_run::{check, repair};
+use run_collect::collect;
+use run_repair::{check, repair};
 
 /// Does the upkeep of a flash that the words ask for, or runs on it as they ask. The answer is the status that the program
 /// ends with, and the flash. What was written, and what the flash holds, is what `repair`, `check`, `collect` or `top` promises.

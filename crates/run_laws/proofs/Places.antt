@@ -20,7 +20,7 @@ use Rattle.run_model.specs.Scripts.{script_talk}
 use Rattle.run_model.specs.Talk.{Talk, answered, last_database, talk_output}
 use Rattle.run_model.proofs.Beginnings.{begins, head_of, tail_of}
 use Rattle.run_model.proofs.Talks.{output-append}
-use Rattle.serve_model.specs.Served.{serve_talk}
+use Rattle.run_frames.specs.Served.{serve_talk}
 use Rattle.sound_image.specs.Images.{base}
 
 -- two fronts of one list that have one length are the same

@@ -1,8 +1,8 @@
 -- What is left of a line at its end.
 use Rattle.std.proofs.Common.{◌≡◌, refl, ℕ, true, false, List, [], ◌∷◌, length}
 use Rattle.std.specs.Prelude.{nat_lt}
-use Rattle.intake.specs.declared.ending.Ending.TheVariants.{Sink, Flash}
-use Rattle.serve_model.specs.Frames.{Unfinished, unended_frame}
+use Rattle.run_input.specs.declared.ending.Ending.TheVariants.{Sink, Flash}
+use Rattle.run_frames.specs.Frames.{Unfinished, unended_frame}
 
 pub true_false : true ≡ false → ⊥
 true_false e = cc

@@ -1,9 +1,9 @@
 -- Where a run goes no further, by what comes of an entry.
 use Rattle.std.proofs.Common.{◌≡◌, inl, ℕ, List, [], ◌∷◌, Option, refl, ap, sym, ◌∙◌}
 use Rattle.std.specs.Io.KnownBytes.{append_known}
-use Rattle.answering.proofs.Single.{command_found, command_unsaid}
-use Rattle.answering.specs.Carried.{HaltsIn, Limits, Standing, no_space}
-use Rattle.intake.specs.declared.ending.Ending.TheVariants.{Space, Flash, Sink}
+use Rattle.run_entries.proofs.Single.{command_found, command_unsaid}
+use Rattle.run_entries.specs.Carried.{HaltsIn, Limits, Standing, no_space}
+use Rattle.run_input.specs.declared.ending.Ending.TheVariants.{Space, Flash, Sink}
 use Rattle.reply_text.proofs.Pieces.{append_known-nil}
 use Rattle.reply_text.specs.WroteLess.{WroteLess}
 use Rattle.run_model.specs.Talk.{Talk}

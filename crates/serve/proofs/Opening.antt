@@ -3,7 +3,7 @@ use Rattle.std.proofs.Common.{◌≡◌, refl, sym, ap, subst, ◌∙◌, ℕ, �
 use Rattle.std.specs.Prelude.{◌==◌, option_map, option_and_then, nat_lt, if◌then◌else◌, slice_index}
 use Rattle.std.proofs.lemmas.Bool.Decides.{nat_tests, Decides-eqb}
 use Rattle.std.proofs.lemmas.List.{take-append-le, take_all, length-take}
-use Rattle.serve_model.specs.Frames.{Frame, Broken, Long, Asked, decoded, escaped, frame_of, frame_from, part_behind, is_client}
+use Rattle.run_frames.specs.Frames.{Frame, Broken, Long, Asked, decoded, escaped, frame_of, frame_from, part_behind, is_client}
 use Rattle.serve.specs.Gathers.{Opened, with_front, escape_opened, opened_escape, one_more, Decoding, GathersPart, GathersBy, HoldsPart, KeepsPart}
 
 -- ---- decoding

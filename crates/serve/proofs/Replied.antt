@@ -1,7 +1,7 @@
 -- What comes of one entry, by the command that it asks for or its refusal.
 use Rattle.std.proofs.Common.{◌≡◌, ℕ, ◌+◌, ◌≤◌, ap, sym, subst, ◌∙◌, arith}
 use Rattle.std.specs.Prelude.{IsOk, Ok, Err}
-use Rattle.answering.specs.Carried.{Limits, Standing}
+use Rattle.run_entries.specs.Carried.{Limits, Standing}
 use Rattle.db_model.specs.declared.commands.Command.{Command}
 use Rattle.db_model.specs.declared.refusals.Refusal.{Refusal}
 use Rattle.db_model.specs.Ahead.{cost_of}

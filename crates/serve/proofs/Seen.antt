@@ -1,6 +1,6 @@
 -- A server and its sink as what takes an input.
-use Rattle.intake.specs.Through.{Out}
-use Rattle.answering.specs.Taking.{Running, running}
+use Rattle.run_input.specs.Through.{Out}
+use Rattle.run_entries.specs.Taking.{Running, running}
 use Rattle.serve.specs.Gathers.{Decoding}
 use Rattle.serve.specs.declared.serving.Server.{Server}
 

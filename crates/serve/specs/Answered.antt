@@ -1,7 +1,7 @@
 -- What comes of an entry that a session is asked to answer.
 use Rattle.std.specs.Prelude.{◌≡◌, ◌≤◌, ℕ, ◌+◌, [], ◌∷◌, IsOk, Result, Ok, Err}
 use Rattle.std.specs.List.{AllByRecursion}
-use Rattle.answering.specs.Carried.{Carried, Limits, Standing}
+use Rattle.run_entries.specs.Carried.{Carried, Limits, Standing}
 use Rattle.db_model.specs.declared.commands.Command.{Command}
 use Rattle.db_model.specs.Ahead.{cost_of}
 use Rattle.db_model.specs.ReplyText.{text}

@@ -1,6 +1,6 @@
 -- What a decoder has kept of the part at hand.
 use Rattle.std.specs.Prelude.{◌≡◌, ℕ, ◌<◌, ◌≤◌, Bool, true, false, ◌==◌, List, [], ◌∷◌, ◌++◌, length, take, drop, slice_index, nat_lt, Option, Some, None, IsTrue, option_map, if◌then◌else◌}
-use Rattle.serve_model.specs.Frames.{Frame, Broken, Long, Asked, is_client}
+use Rattle.run_frames.specs.Frames.{Frame, Broken, Long, Asked, is_client}
 use Rattle.serve.specs.declared.fed.Fed.{Fed}
 use Rattle.serve.specs.declared.fed.Fed.TheVariants as fed
 

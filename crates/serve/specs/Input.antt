@@ -1,14 +1,14 @@
 -- A line of frames as an input whose bytes come one by one.
 use Rattle.std.proofs.Common.{ℕ, ◌<◌, List, length, arith}
 use Rattle.std.specs.Prelude.{Result}
-use Rattle.answering.specs.Taking.{Input}
+use Rattle.run_entries.specs.Taking.{Input}
 use Rattle.db_model.specs.declared.commands.Command.{Command}
 use Rattle.db_model.specs.declared.refusals.Refusal.{Refusal}
 use Rattle.db_model.specs.ReplyText.{text}
 use Rattle.db_model.specs.Step.{Reply}
 use Rattle.serve.specs.Gathers.{Decoding, GathersPart}
-use Rattle.serve_model.specs.Frames.{Frame, frame_cut}
-use Rattle.serve_model.specs.Served.{serve_talk}
+use Rattle.run_frames.specs.Frames.{Frame, frame_cut}
+use Rattle.run_frames.specs.Served.{serve_talk}
 
 -- of the part at hand a decoder is kept
 abbrev pub frame_input : Input Frame (List ℕ) Decoding

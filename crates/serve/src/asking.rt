@@ -3,7 +3,7 @@
 #![tactic(auto)]
 
 ghost use Rattle.std.specs.Prelude.{◌≡◌, ◌≤◌, false, true, ℕ, List, Result, Ok, Some, IsErrOf, IsTrue, OnOk, length};
-ghost use Rattle.answering.specs.Carried.{standing_of, limits_of};
+ghost use Rattle.run_entries.specs.Carried.{standing_of, limits_of};
 ghost use Rattle.antelope_engine.specs.Seen.{WhereNoSpace};
 ghost use Rattle.db_model.specs.declared.commands.Command.{Command as AnyCommand};
 ghost use Rattle.db_model.specs.declared.refusals.Refusal.{Refusal as AnyRefusal};
@@ -12,8 +12,8 @@ ghost use Rattle.db_model.specs.Reading.{IsReader};
 ghost use Rattle.db_model.specs.Spelling.{nodes_of};
 ghost use Rattle.serve.specs.Answered.{Answered};
 ghost use Rattle.serve.specs.Front.{fronted};
-ghost use Rattle.serve_model.specs.Frames.{Asked, is_client};
-ghost use Rattle.serve_model.specs.Served.{heard, serve_talk};
+ghost use Rattle.run_frames.specs.Frames.{Asked, is_client};
+ghost use Rattle.run_frames.specs.Served.{heard, serve_talk};
 ghost use Rattle.afl_base.specs.declared.fault.Fault.TheVariants.{Flash};
 ghost use Rattle.session_model.specs.Carried.{ChangesAndSends};
 ghost use Rattle.session_model.specs.Steps.{HasFaultCause};

@@ -3,13 +3,13 @@
 #![tactic(auto)]
 
 ghost use Rattle.std.specs.Prelude.{◌≡◌, ◌≤◌, ◌∷◌, [], false, true, ℕ, List, Result, IfErr, IsErrOf, IsTrue, OnOk, length};
-ghost use Rattle.answering.specs.Carried.{Carried, HaltsIn, ChangesOrHalts, standing_of, limits_of};
+ghost use Rattle.run_entries.specs.Carried.{Carried, HaltsIn, ChangesOrHalts, standing_of, limits_of};
 ghost use Rattle.db_model.specs.declared.commands.Command.{Command as AnyCommand};
 ghost use Rattle.db_model.specs.declared.refusals.Refusal.{Refusal as AnyRefusal};
 ghost use Rattle.db_model.specs.Reading.{IsReader};
-ghost use Rattle.intake.specs.declared.ending.Ending.TheVariants as Ending;
-ghost use Rattle.serve_model.specs.Frames.{Asked, is_client};
-ghost use Rattle.serve_model.specs.Served.{serve_talk};
+ghost use Rattle.run_input.specs.declared.ending.Ending.TheVariants as Ending;
+ghost use Rattle.run_frames.specs.Frames.{Asked, is_client};
+ghost use Rattle.run_frames.specs.Served.{serve_talk};
 
 use crate::asking::answer;
 use crate::replies::refuse;
@@ -17,7 +17,7 @@ use afl_base::{Failed, Fault, Files, Sink};
 use antelope_engine::{Session, Step};
 use aql_parse::Parser;
 use db_model::{Command, Refusal};
-use intake::Ending;
+use run_input::Ending;
 
 /// Answers a client's command, or writes that there is no space for it.
 pub fn carry_out<V: Files, K: Sink>(

@@ -3,7 +3,7 @@
 #![tactic(auto)]
 
 ghost use Rattle.std.specs.Prelude.{◌≡◌, ◌≤◌, ◌<◌, ℕ, Bool, false, true, not, List, [], ◌∷◌, ◌++◌, length, take, nat_lt, Option, Some, None, option_and_then};
-ghost use Rattle.serve_model.specs.Frames.{Frame, decoded, ended_frames, frame_from, frame_of, is_client, part_behind};
+ghost use Rattle.run_frames.specs.Frames.{Frame, decoded, ended_frames, frame_from, frame_of, is_client, part_behind};
 ghost use Rattle.serve.specs.Gathers.{Decoding, GathersPart, HasFrame, HoldsPart, KeepsPart, Opened, client_in, command_in, one_more, escape_opened, told};
 
 use crate::fed::Fed;

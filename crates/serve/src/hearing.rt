@@ -9,8 +9,8 @@ ghost use Rattle.db_model.specs.declared.refusals.Refusal.{Refusal as AnyRefusal
 ghost use Rattle.db_model.specs.Cond.{IsCondition};
 ghost use Rattle.db_model.specs.Reading.{IsReader};
 ghost use Rattle.db_model.specs.Spelling.{nodes_of};
-ghost use Rattle.serve_model.specs.Frames.{Asked};
-ghost use Rattle.serve_model.specs.Served.{heard, numbered_cursor, own_cursor};
+ghost use Rattle.run_frames.specs.Frames.{Asked};
+ghost use Rattle.run_frames.specs.Served.{heard, numbered_cursor, own_cursor};
 
 use aql_parse::{Parser, readings_are_unique};
 use db_model::{Command, Refusal};

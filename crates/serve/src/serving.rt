@@ -3,16 +3,16 @@
 #![tactic(auto)]
 
 ghost use Rattle.std.specs.Prelude.{◌≡◌, ◌⊎◌, ◌≤◌, ◌∷◌, [], false, true, ℕ, List, Result, IfErr, IsErrOf, IsTrue, OnOk, length};
-ghost use Rattle.answering.specs.Carried.{Carried, ChangesOrHalts, HaltsIn, HasHaltCause, standing_of, limits_of};
-ghost use Rattle.answering.specs.Taking.{EndsInput, HaltsAtLast, HaltsInBytes, HasOne, TakesBytes, running};
+ghost use Rattle.run_entries.specs.Carried.{Carried, ChangesOrHalts, HaltsIn, HasHaltCause, standing_of, limits_of};
+ghost use Rattle.run_entries.specs.Taking.{EndsInput, HaltsAtLast, HaltsInBytes, HasOne, TakesBytes, running};
 ghost use Rattle.db_model.specs.declared.commands.Command.{Command as AnyCommand};
 ghost use Rattle.db_model.specs.declared.refusals.Refusal.{Refusal as AnyRefusal};
 ghost use Rattle.db_model.specs.Reading.{IsReader};
-ghost use Rattle.intake.specs.declared.ending.Ending.TheVariants as Ending;
+ghost use Rattle.run_input.specs.declared.ending.Ending.TheVariants as Ending;
 ghost use Rattle.serve.specs.Gathers.{GathersPart, HasFrame, told};
 ghost use Rattle.serve.specs.Input.{frame_input};
-ghost use Rattle.serve_model.specs.Frames.{Frame, frame_cut};
-ghost use Rattle.serve_model.specs.Served.{serve_talk};
+ghost use Rattle.run_frames.specs.Frames.{Frame, frame_cut};
+ghost use Rattle.run_frames.specs.Served.{serve_talk};
 
 use crate::carrying::carry_out;
 use crate::decoder::Decoder;
@@ -22,7 +22,7 @@ use afl_base::{Failed, Files, Sink};
 use antelope_engine::Session;
 use aql_parse::Parser;
 use db_model::{Command, Refusal};
-use intake::{Ending, Taker};
+use run_input::{Ending, Taker};
 
 /// What takes the bytes of a line and answers its frames over a session that is lent to it.
 #[derive(Drop)]
@@ -37,12 +37,12 @@ pub struct Server<'a, V: Files> {
 impl<'a, V: Files> Taker for Server<'a, V> {
     ghost use Rattle.std.specs.Prelude.{◌≡◌, ◌∷◌, []};
     ghost use Rattle.std.proofs.Common.{refl, ◌∙◌};
-    ghost use Rattle.answering.proofs.SentReplies.{sent_behind, sent_reply};
-    ghost use Rattle.answering.proofs.Taken.{halted_before, halted_behind, taken_more, taken_none};
-    ghost use Rattle.answering.specs.Taking.{EndsInput, HaltsAtLast, HaltsInBytes, HasOne, TakesBytes, running};
+    ghost use Rattle.run_entries.proofs.SentReplies.{sent_behind, sent_reply};
+    ghost use Rattle.run_entries.proofs.Taken.{halted_before, halted_behind, taken_more, taken_none};
+    ghost use Rattle.run_entries.specs.Taking.{EndsInput, HaltsAtLast, HaltsInBytes, HasOne, TakesBytes, running};
     ghost use Rattle.serve.specs.Input.{frame_input, frame_some};
-    ghost use Rattle.serve_model.proofs.Ending.{frame_parts};
-    ghost use Rattle.serve_model.specs.Frames.{frame_cut, frame_line};
+    ghost use Rattle.run_frames.proofs.Ending.{frame_parts};
+    ghost use Rattle.run_frames.specs.Frames.{frame_cut, frame_line};
 
     ghost Takes = { λ a came b. TakesBytes frame_input V.Files
         (running a.0.session.now a.0.decoder a.1.held a.1.faults) came

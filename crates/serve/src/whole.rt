@@ -3,16 +3,16 @@
 #![tactic(auto)]
 
 ghost use Rattle.std.specs.Prelude.{◌≡◌, [], false, true, ℕ, List, Result, Err, IsTrue, length};
-ghost use Rattle.answering.specs.Carried.{standing_of, limits_of};
-ghost use Rattle.answering.specs.Went.{HasRunCause, Reaches, Went};
+ghost use Rattle.run_entries.specs.Carried.{standing_of, limits_of};
+ghost use Rattle.run_entries.specs.Went.{HasRunCause, Reaches, Went};
 ghost use Rattle.db_model.specs.declared.commands.Command.{Command as AnyCommand};
 ghost use Rattle.db_model.specs.declared.refusals.Refusal.{Refusal as AnyRefusal};
 ghost use Rattle.db_model.specs.Reading.{IsReader};
-ghost use Rattle.intake.specs.declared.ending.Ending.TheVariants as Ending;
-ghost use Rattle.intake.specs.declared.ending.InputEnding.TheVariants as InputEnding;
+ghost use Rattle.run_input.specs.declared.ending.Ending.TheVariants as Ending;
+ghost use Rattle.run_input.specs.declared.ending.InputEnding.TheVariants as InputEnding;
 ghost use Rattle.serve.specs.Gathers.{GathersPart};
-ghost use Rattle.serve_model.specs.Frames.{frame_line};
-ghost use Rattle.serve_model.specs.Served.{serve_talk};
+ghost use Rattle.run_frames.specs.Frames.{frame_line};
+ghost use Rattle.run_frames.specs.Served.{serve_talk};
 
 use crate::decoder::Decoder;
 use crate::serving::Server;
@@ -20,7 +20,7 @@ use afl_base::{Files, Sink, Source};
 use antelope_engine::Session;
 use aql_parse::Parser;
 use db_model::Command;
-use intake::{InputEnding, take_through};
+use run_input::{InputEnding, take_through};
 
 /// Answers the frames of a line to its end, or as far as it goes.
 // Not inlined, so that what keeps the line's commands is on the stack of no other run.

@@ -1,6 +1,6 @@
 use Rattle.std.proofs.Common.{◌≡◌, ◌≤◌, ◌+◌, ◌/◌, ℕ, List, refl, rules, ap, subst, sym, ◌∙◌, inl, inr, Err, arith, length}
-use Rattle.intake.specs.declared.ending.Ending.TheVariants.{Flash, Sink}
-use Rattle.intake.specs.declared.ending.InputEnding.TheVariants.{Input, Early}
+use Rattle.run_input.specs.declared.ending.Ending.TheVariants.{Flash, Sink}
+use Rattle.run_input.specs.declared.ending.InputEnding.TheVariants.{Input, Early}
 use Rattle.coffee_layout.specs.Rules.{broken_image}
 use Rattle.stored.specs.Base.{base_of}
 use Rattle.stored.specs.Sound.{BreaksFirst, IsSoundTable}
@@ -16,7 +16,7 @@ use Rattle.antelope_run.proofs.Refusals.{none_opened, nothing_broken, on_unopene
 use Rattle.antelope_run.specs.Promise.{ComesTo}
 use Rattle.antelope_run.specs.Does.{OnlyTells}
 use Rattle.antelope_run.specs.Follows.{WritesBehind}
-use Rattle.look.specs.Text.{flash_line}
+use Rattle.run_look.specs.Text.{flash_line}
 use Rattle.antelope_run.specs.declared.came.Came.TheVariants.{Opened}
 use Rattle.antelope_run.proofs.call.run_form.Goals as goal
 

@@ -1,17 +1,17 @@
 use Rattle.std.proofs.Common.{ap}
-use Rattle.answering.specs.Carried.{limits_of, standing_of}
+use Rattle.run_entries.specs.Carried.{limits_of, standing_of}
 use Rattle.run_model.proofs.Parts.{script_parts}
 use Rattle.run_model.specs.Scripts.{script_cut, script_line, script_talk}
-use Rattle.serve_model.proofs.Ending.{frame_parts}
-use Rattle.serve_model.specs.Frames.{frame_cut, frame_line}
-use Rattle.serve_model.specs.Served.{serve_talk}
+use Rattle.run_frames.proofs.Ending.{frame_parts}
+use Rattle.run_frames.specs.Frames.{frame_cut, frame_line}
+use Rattle.run_frames.specs.Served.{serve_talk}
 use Rattle.antelope_run.proofs.Fronts.{has_fronts}
 use Rattle.antelope_run.proofs.Halts.{reaches_by, reaches_none}
 use Rattle.antelope_run.proofs.PagesRead.{reads_few}
 use Rattle.antelope_run.proofs.carrying.carry_out.Goals as goal
 
 pub returns-in-Run-clause-does : goal.returns-in-Run-clause-does
-returns-in-Run-clause-does g c = λ told kept. rw c.in-Run.is (c.run_script.ensures.went told)
+returns-in-Run-clause-does g c = λ told kept. rw c.in-Run.is (c.answer_script.ensures.went told)
 
 pub returns-in-Serve-clause-does : goal.returns-in-Serve-clause-does
 returns-in-Serve-clause-does g c = λ told kept. rw c.in-Serve.is (c.serve_line.ensures.went told)
@@ -50,9 +50,9 @@ pub returns-in-Run-clause-reads : goal.returns-in-Run-clause-reads
 returns-in-Run-clause-reads g c = λ told. rw c.in-Run.is (λ read reader.
     reads_few script_line (has_fronts script_cut script_line script_parts) (script_talk read)
     (standing_of g.V.Files.state g.V.Files.reads c.args.session.now (g.K.Sink.held c.args.out.now))
-    (standing_of g.V.Files.state g.V.Files.reads c.run_script.new.session (g.K.Sink.held c.run_script.new.out))
-    (g.S.Source.left c.args.input.now) (g.S.Source.left c.run_script.new.script)
-    (limits_of g.V.Files c.run_script.new.session) c.run_script.result (c.run_script.ensures.went told read reader))
+    (standing_of g.V.Files.state g.V.Files.reads c.answer_script.new.session (g.K.Sink.held c.answer_script.new.out))
+    (g.S.Source.left c.args.input.now) (g.S.Source.left c.answer_script.new.script)
+    (limits_of g.V.Files c.answer_script.new.session) c.answer_script.result (c.answer_script.ensures.went told read reader))
 
 pub returns-in-Serve-clause-reads : goal.returns-in-Serve-clause-reads
 returns-in-Serve-clause-reads g c = λ told. rw c.in-Serve.is (λ read reader.
@@ -64,7 +64,7 @@ returns-in-Serve-clause-reads g c = λ told. rw c.in-Serve.is (λ read reader.
 
 pub returns-in-Run-clause-reaches : goal.returns-in-Run-clause-reaches
 returns-in-Run-clause-reaches g c =
-    reaches_by c.args.form (g.S.Source.left c.args.input.now) (g.S.Source.left c.run_script.new.script) c.run_script.result c.run_script.ensures.reaches
+    reaches_by c.args.form (g.S.Source.left c.args.input.now) (g.S.Source.left c.answer_script.new.script) c.answer_script.result c.answer_script.ensures.reaches
 
 pub returns-in-Serve-clause-reaches : goal.returns-in-Serve-clause-reaches
 returns-in-Serve-clause-reaches g c =

@@ -1,5 +1,5 @@
 use Rattle.std.proofs.Common.{rules}
-use Rattle.answering.specs.Carried.{standing_of}
+use Rattle.run_entries.specs.Carried.{standing_of}
 use Rattle.antelope_run.proofs.Halts.{generated, generated_cause, generated_lost, generated_tells, halted_only}
 use Rattle.antelope_run.proofs.carrying.generate_all.Goals as goal
 

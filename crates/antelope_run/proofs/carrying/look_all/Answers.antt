@@ -1,5 +1,5 @@
 use Rattle.std.proofs.Common.{rules, ap, length}
-use Rattle.answering.specs.Carried.{standing_of}
+use Rattle.run_entries.specs.Carried.{standing_of}
 use Rattle.antelope_run.proofs.Halts.{dumped, dumped_cause, dumped_lost, dumped_same, stopped_only, unless_flash}
 use Rattle.antelope_run.proofs.carrying.look_all.Goals as goal
 

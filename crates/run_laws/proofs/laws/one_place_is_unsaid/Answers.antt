@@ -1,6 +1,6 @@
 use Rattle.run_model.specs.Scripts.{script_cut, script_line, script_talk}
-use Rattle.serve_model.specs.Frames.{frame_cut, frame_line}
-use Rattle.serve_model.specs.Served.{serve_talk}
+use Rattle.run_frames.specs.Frames.{frame_cut, frame_line}
+use Rattle.run_frames.specs.Served.{serve_talk}
 use Rattle.run_laws.proofs.Places.{one_place_unsaid, script_tells, served_tells}
 use Rattle.run_laws.proofs.laws.one_place_is_unsaid.Goals as goal
 

@@ -1,10 +1,10 @@
 use Rattle.std.proofs.Common.{refl, ap, arith}
-use Rattle.answering.proofs.Single.{refused_carried}
-use Rattle.answering.specs.Carried.{standing_of}
+use Rattle.run_entries.proofs.Single.{refused_carried}
+use Rattle.run_entries.specs.Carried.{standing_of}
 use Rattle.session_model.specs.Steps.{outcome_of}
 use Rattle.serve.proofs.Replied.{refused_is, refused_says_less}
-use Rattle.serve_model.specs.Frames.{Asked}
-use Rattle.serve_model.specs.Served.{serve_talk}
+use Rattle.run_frames.specs.Frames.{Asked}
+use Rattle.run_frames.specs.Served.{serve_talk}
 use Rattle.serve.proofs.asking.answer.Goals as goal
 
 pub returns-in-Ok-refuse-clause-answered : goal.returns-in-Ok-refuse-clause-answered

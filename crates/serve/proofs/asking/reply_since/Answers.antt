@@ -1,6 +1,6 @@
 use Rattle.std.proofs.Common.{◌≡◌, Some, false, refl, ap, ◌∙◌, arith, drop, rules}
 use Rattle.std.specs.Prelude.{Ok, Err}
-use Rattle.answering.specs.Carried.{standing_of, limits_of}
+use Rattle.run_entries.specs.Carried.{standing_of, limits_of}
 use Rattle.db_model.specs.ReplyText.{text}
 use Rattle.db_model.specs.Step.{step}
 use Rattle.session_model.specs.declared.step.Step.{Step}
@@ -11,8 +11,8 @@ use Rattle.serve.specs.Front.{fronted}
 use Rattle.serve.proofs.Replied.{finds_none, says_less, says_part}
 use Rattle.serve.proofs.Holding.{fine_by, rose_behind, same_faults}
 use Rattle.serve.proofs.Unsent.{frame_less, frame_part, frame_unended}
-use Rattle.serve_model.specs.Frames.{Asked}
-use Rattle.serve_model.specs.Served.{serve_talk}
+use Rattle.run_frames.specs.Frames.{Asked}
+use Rattle.run_frames.specs.Served.{serve_talk}
 use Rattle.serve.proofs.asking.reply_since.Goals as goal
 
 -- END, or the byte in front, was not written

@@ -1,7 +1,7 @@
-use Rattle.answering.specs.Carried.{standing_of, limits_of}
+use Rattle.run_entries.specs.Carried.{standing_of, limits_of}
 use Rattle.serve.proofs.Halting.{less_halts, none_halts, part_halts, unsaid_halts}
-use Rattle.serve_model.specs.Frames.{Asked}
-use Rattle.serve_model.specs.Served.{serve_talk}
+use Rattle.run_frames.specs.Frames.{Asked}
+use Rattle.run_frames.specs.Served.{serve_talk}
 use Rattle.serve.proofs.carrying.carry_out.Goals as goal
 
 pub returns-in-Ok-clause-halts : goal.returns-in-Ok-clause-halts

@@ -1,6 +1,6 @@
 use Rattle.std.proofs.Common.{ap, ◌∙◌}
 use Rattle.db_model.specs.declared.commands.Command.TheVariants.{OpenCursor, FetchCursor, CloseCursor}
-use Rattle.serve_model.specs.Served.{own_cursor}
+use Rattle.run_frames.specs.Served.{own_cursor}
 use Rattle.serve.proofs.hearing.own_cursor.Goals as goal
 
 pub returns-in-OpenCursor-clause-own : goal.returns-in-OpenCursor-clause-own

@@ -1,11 +1,11 @@
 use Rattle.std.proofs.Common.{List, inl, inr, refl, ap, sym, subst, arith}
-use Rattle.answering.proofs.Single.{refused_carried, refused_halts}
-use Rattle.answering.specs.Carried.{Carried, HaltsIn, standing_of, limits_of}
+use Rattle.run_entries.proofs.Single.{refused_carried, refused_halts}
+use Rattle.run_entries.specs.Carried.{Carried, HaltsIn, standing_of, limits_of}
 use Rattle.db_model.specs.declared.refusals.Refusal.TheVariants as no
-use Rattle.intake.specs.declared.ending.Ending.TheVariants.{Sink}
+use Rattle.run_input.specs.declared.ending.Ending.TheVariants.{Sink}
 use Rattle.serve.specs.Gathers.{client_in, command_in, told}
-use Rattle.serve_model.specs.Frames.{Asked, Frame, Broken, Long}
-use Rattle.serve_model.specs.Served.{serve_talk}
+use Rattle.run_frames.specs.Frames.{Asked, Frame, Broken, Long}
+use Rattle.run_frames.specs.Served.{serve_talk}
 use Rattle.serve.proofs.serving.answer_fed.Goals as goal
 
 pub returns-in-Ok-refuse-clause-carried : goal.returns-in-Ok-refuse-clause-carried

@@ -1,7 +1,7 @@
-use Rattle.intake.specs.Through.{Out, out_of}
-use Rattle.answering.proofs.Through.{reaches, sum, went}
-use Rattle.serve_model.specs.Frames.{frame_line}
-use Rattle.serve_model.proofs.Ending.{frame_parts}
+use Rattle.run_input.specs.Through.{Out, out_of}
+use Rattle.run_entries.proofs.Through.{reaches, sum, went}
+use Rattle.run_frames.specs.Frames.{frame_line}
+use Rattle.run_frames.proofs.Ending.{frame_parts}
 use Rattle.serve.specs.declared.serving.Server.{Server}
 use Rattle.serve.specs.Input.{frame_input}
 use Rattle.serve.proofs.Seen.{seen}

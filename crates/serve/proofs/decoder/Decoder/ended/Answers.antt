@@ -1,7 +1,7 @@
 use Rattle.std.proofs.Common.{◌≡◌, ◌<◌, [], ◌∷◌, length, get_or, drop, true, sym, ap, subst, ◌∙◌, arith}
 use Rattle.std.specs.Prelude.{if◌then◌else◌}
 use Rattle.std.proofs.lemmas.Bool.Decides.{nat_tests}
-use Rattle.serve_model.specs.Frames.{is_client, Long, Asked}
+use Rattle.run_frames.specs.Frames.{is_client, Long, Asked}
 use Rattle.serve.specs.Gathers.{KeepsPart, client_in, command_in}
 use Rattle.serve.proofs.Opening.{refused_broken, refused_open, decodes, ends_empty, ends_strange, ends_client}
 use Rattle.serve.proofs.decoder.Decoder.ended.Goals as goal

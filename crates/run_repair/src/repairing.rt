@@ -1,0 +1,98 @@
+ghost use Rattle.std.specs.Prelude.{◌≡◌, ◌≤◌, Err, IsTrue, OnOk, length};
+ghost use Rattle.afl_base.specs.Causes.{Rose};
+ghost use Rattle.coffee_find.specs.Found.{IsCutBy, IsTroubleInside};
+ghost use Rattle.coffee_mend.specs.Mended.{IsMended};
+ghost use Rattle.run_repair.specs.Findings.{IsMendable};
+ghost use Rattle.run_repair.specs.Repairs.{IsRepairStatus, Leaves, Repairs};
+ghost use Rattle.sound_image.specs.Images.{IsSound};
+ghost use Rattle.run_repair.specs.declared.came.Hindrance.TheVariants.{Failed as FaultOfFlash};
+
+use crate::came::{Came, Hindrance};
+use crate::finding::{Finding, find_out};
+use crate::judging::judge_image;
+use crate::lines::say;
+use crate::mending::mend_image;
+use afl_base::{Flash, Sink};
+use coffee_find::Trouble;
+use coffee_layout::BadImage;
+use coffee_mend::{MendError, mend};
+use stored_mend::Report;
+
+/// Repairs an image that a power cut left, and answers the status that the program ends with.
+///
+/// | status | comes |
+/// |---|---|
+/// | 0 | the image was sound: `sound` was written, and it is as it was; or it was not, and is now, and stands for the database that it mended to, in which a relation may have one removed row more, and an index that had a tree may be gone: a line was written for each thing that was put right in its database, and `repaired` |
+/// | 3 | the flash has no room for what must be repaired, and `no space N` was written |
+/// | 4, 5 | only where the flash, the sink counted a fault |
+/// | 6 | the image is not sound, and no cut leaves such a one: `no image RULE PLACE` was written |
+pub fn repair<F: Flash, K: Sink>(out: &mut K, flash: &mut F) -> u8
+    ensures only { IsRepairStatus result }
+    ensures told { IsTrue F.tells
+        → Repairs result (F.image flash.old) (F.image flash.new) (K.held out.old) (K.held out.new) }
+    ensures flash { result ≡ 4 → Rose (F.faults flash.old) (F.faults flash.new) }
+    ensures sink { result ≡ 5 → Rose (K.faults out.old) (K.faults out.new) }
+    ensures size { length (F.image flash.new) ≡ length (F.image flash.old) }
+    ensures lent { F.lent flash.new ≡ F.lent flash.old }
+    ensures sink_lent { K.lent out.new ≡ K.lent out.old }
+{
+    let mut report = Report::new();
+    let came = put_right(flash, &mut report);
+    say(out, &report, came)
+}
+
+// What a repair comes to. What is wrong is found by reading alone, before anything is written.
+fn put_right<F: Flash>(flash: &mut F, report: &mut Report) -> Result<Came, Hindrance>
+    ensures leaves { IsTrue F.tells → Leaves (F.image flash.old) (F.image flash.new) result }
+    ensures size { length (F.image flash.new) ≡ length (F.image flash.old) }
+    ensures lent { F.lent flash.new ≡ F.lent flash.old }
+    ensures cause { result ≡ Err FaultOfFlash → Rose (F.faults flash.old) (F.faults flash.new) }
+{
+    match find_out(flash)? {
+        Finding::Sound => Ok(Came::Sound),
+        Finding::Strange(bad) => Ok(Came::Strange(bad)),
+        Finding::Cut { trouble, bad } => put_cut_right(flash, &trouble, bad, report),
+    }
+}
+
+// Repairs an image of whose files a cut left this, and which breaks this rule first: first the files, and then the
+// database in them.
+fn put_cut_right<F: Flash>(
+    flash: &mut F,
+    trouble: &Trouble,
+    bad: BadImage,
+    report: &mut Report,
+) -> Result<Came, Hindrance>
+    requires inside { IsTroubleInside (length (F.image flash.old)) trouble.now }
+    ensures leaves { IsTrue F.tells → (IsSound (F.image flash.old) → ⊥)
+        → IsCutBy (F.image flash.old) trouble.now → IsMendable (F.image flash.old)
+        → Leaves (F.image flash.old) (F.image flash.new) result }
+    ensures size { length (F.image flash.new) ≡ length (F.image flash.old) }
+    ensures lent { F.lent flash.new ≡ F.lent flash.old }
+    ensures cause { result ≡ Err FaultOfFlash → Rose (F.faults flash.old) (F.faults flash.new) }
+{
+    mend_files(flash, trouble, bad)?;
+    mend_image(flash, report)?;
+    match judge_image(flash)? {
+        Ok(()) => Ok(Came::Repaired),
+        Err(bad) => Err(Hindrance::Unsettled(bad)),
+    }
+}
+
+// Repairs what a cut left of the files of an image that breaks this rule first.
+fn mend_files<F: Flash>(flash: &mut F, trouble: &Trouble, bad: BadImage) -> Result<(), Hindrance>
+    requires inside { IsTroubleInside (length (F.image flash.old)) trouble.now }
+    ensures mended { IsTrue F.tells → IsCutBy (F.image flash.old) trouble.now
+        → OnOk result (IsMended (F.image flash.old) (F.image flash.new)) }
+    ensures size { length (F.image flash.new) ≡ length (F.image flash.old) }
+    ensures lent { F.lent flash.new ≡ F.lent flash.old }
+    ensures later { OnOk result (F.faults flash.old ≤ F.faults flash.new) }
+    ensures cause { result ≡ Err FaultOfFlash → Rose (F.faults flash.old) (F.faults flash.new) }
+{
+    match mend(flash, trouble) {
+        Ok(()) => Ok(()),
+        Err(MendError::Space { need }) => Err(Hindrance::Spaceless { need }),
+        Err(MendError::Failed) => Err(Hindrance::Failed),
+        Err(MendError::Unsettled) => Err(Hindrance::Unsettled(bad)),
+    }
+}

@@ -1,0 +1,7 @@
+use Rattle.std.proofs.Common.{drop, ap, ◌∙◌}
+use Rattle.std.proofs.lemmas.List.{take_rest}
+use Rattle.run_script.proofs.Gathering.{past_front}
+use Rattle.run_script.proofs.piece.past_white.Goals as goal
+
+pub returns : goal.returns
+returns c = let bytes = c.args.bytes.now in take_rest bytes c.white_len.result ∙ ap (λ n. drop n bytes) c.white_len.ensures.len ∙ past_front bytes
