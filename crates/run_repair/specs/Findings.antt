@@ -4,7 +4,7 @@ use Rattle.coffee_cuts.specs.Cuts.{MendsTo}
 use Rattle.coffee_find.specs.Found.{IsCutBy, IsTroubleInside}
 use Rattle.coffee_layout.specs.Files.{NamedFile}
 use Rattle.coffee_layout.specs.Rules.{broken_image}
-use Rattle.sound_image.specs.Images.{IsFirstBroken, IsSound}
+use Rattle.image_model.specs.Images.{IsFirstBroken, IsSound}
 use Rattle.run_repair.specs.declared.finding.Finding.{Finding}
 use Rattle.run_repair.specs.declared.finding.Finding.TheVariants.{Sound, Cut, Strange}
 

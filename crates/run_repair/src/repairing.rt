@@ -4,7 +4,7 @@ ghost use Rattle.coffee_find.specs.Found.{IsCutBy, IsTroubleInside};
 ghost use Rattle.coffee_mend.specs.Mended.{IsMended};
 ghost use Rattle.run_repair.specs.Findings.{IsMendable};
 ghost use Rattle.run_repair.specs.Repairs.{IsRepairStatus, Leaves, Repairs};
-ghost use Rattle.sound_image.specs.Images.{IsSound};
+ghost use Rattle.image_model.specs.Images.{IsSound};
 ghost use Rattle.run_repair.specs.declared.came.Hindrance.TheVariants.{Failed as FaultOfFlash};
 
 use crate::came::{Came, Hindrance};
