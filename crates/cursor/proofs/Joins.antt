@@ -50,7 +50,7 @@ sum_append : (f : List Value → ℕ) (xs ys : List (List Value)) → sum (map f
 sum_append f [] ys = omega arith
 sum_append f (x ∷ xs) ys = omega (arith, sum_append f xs ys)
 
-first_costs : (c : JoinCursor) (rights xs : List Row) → right_side_costs c rights xs ≡ right_side_costs c rights (take 1 xs) + right_side_costs c rights (drop 1 xs)
+pub first_costs : (c : JoinCursor) (rights xs : List Row) → right_side_costs c rights xs ≡ right_side_costs c rights (take 1 xs) + right_side_costs c rights (drop 1 xs)
 first_costs c rights xs =
     ap (right_side_costs c rights) (sym (take-append-drop 1 xs))
     ∙ ap (λ (l : List (List Value)). sum (map (λ left. right_side_cost c.right_indexes c.right_on (slice_get left c.left_on) rights) l)) (live_append (take 1 xs) (drop 1 xs))
@@ -127,11 +127,11 @@ module _ (c : JoinCursor) (lefts rights : List Row) where
         ∙ ap (λ (l : List ℕ). map (λ (y : List Value). (t, y)) (tuples_at l rights)) none)
 
     -- the next that does
-    pub right_found : (slot : ℕ) (right : List Value) (inner : Candidates)
+    pub right_found : (slot : ℕ) (right : List Value) (inner : Option Candidates)
         → passing (belongs (slice_get t c.left_on) c.right_on) rights (range_with_len c.from (c.right_slots - c.from))
         ≡ slot ∷ passing (belongs (slice_get t c.left_on) c.right_on) rights (range_with_len (slot + 1) (c.right_slots - (slot + 1)))
         → slot < c.right_slots → get_or rights slot no_row ≡ record { tuple = right; live = true }
-        → pairs_left c lefts rights ≡ (t, right) ∷ pairs_left (behind_pair c slot inner) lefts rights
+        → pairs_left c lefts rights ≡ (t, right) ∷ pairs_left (record c { from = slot + 1; inner = inner }) lefts rights
     right_found slot right inner e below is =
         let behind = matching c.left_on c.right_on (drop (c.at + 1) (lefts_of c lefts)) (rights_of c rights) in
         let rest = passing (belongs (slice_get t c.left_on) c.right_on) rights (range_with_len (slot + 1) (c.right_slots - (slot + 1))) in
@@ -257,7 +257,7 @@ module _ (c : JoinCursor) (lefts rights : List Row) (t : List Value) (live : liv
       → IfSome found (λ p. get_or rights p.slot no_row ≡ record { tuple = right; live = true }) → IfSome found (λ p. p.slot < c.right_slots)
       → MatchOption found (pairs_left c lefts rights ≡ pairs_left (at_next_left c) lefts rights) (λ p. pairs_left c lefts rights ≡ (t, right) ∷ pairs_left (behind_pair c p.slot p.inner) lefts rights)
   partner_pairs None right e is below = right_none c lefts rights t live order few e
-  partner_pairs (Some p) right e is below = right_found c lefts rights t live order few p.slot right p.inner e below is
+  partner_pairs (Some p) right e is below = right_found c lefts rights t live order few p.slot right (Some p.inner) e below is
 
   pub partner_costs : (found : Option Partnered) (right : List Value) (r0 rr r1 : ℕ) → c.at < c.left_slots → rr ≤ r0 + 6
       → MatchOption found (pairs_left c lefts rights ≡ pairs_left (at_next_left c) lefts rights) (λ p. pairs_left c lefts rights ≡ (t, right) ∷ pairs_left (behind_pair c p.slot p.inner) lefts rights)

@@ -6,3 +6,8 @@ pub mod Partners
 pub mod Joins
 pub mod Waiting
 pub mod Walking
+pub mod Scanned
+pub mod Blocks
+pub mod BlockSteps
+pub mod BlockPairs
+pub mod BlockWalk

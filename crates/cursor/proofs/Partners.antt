@@ -94,7 +94,7 @@ skip_cost old new from all moved slots search place =
 
 -- ---- the plan for a value
 
-range_eight : (f : ℕ → Range) (place : ℕ) → place < 8 → range_at (map f (range_with_len 0 8)) place ≡ f place
+pub range_eight : (f : ℕ → Range) (place : ℕ) → place < 8 → range_at (map f (range_with_len 0 8)) place ≡ f place
 range_eight f place h = let e : 0 + place ≡ place = omega arith in get_or-map-range_with_len f 0 8 place place everything h e
 
 number_same : (z : ℤ) (o : Option Value) → same_value (Some (Number z)) o ≡ true → int_eq z (key_of o) ≡ true

@@ -1,6 +1,8 @@
 //! Machines that answer a query row by row.
 #![tactic(auto)]
 
+mod block;
+mod by_block;
 mod fields;
 mod join;
 mod laws;
@@ -8,6 +10,7 @@ mod partner;
 mod select;
 mod walk;
 
+pub use block::Block;
 pub use join::JoinCursor;
 pub use laws::{
     nothing_is_left_of_no_slots, rows_that_come_change_no_answer, rows_that_come_change_no_pair,

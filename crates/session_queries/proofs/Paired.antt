@@ -17,7 +17,9 @@ use Rattle.db_model.specs.Refusing.{◌>>◌, refuse_found, refuse_if}
 use Rattle.db_model.specs.Row.{Row}
 use Rattle.db_model.specs.Step.{join_of, joins, missing_in_join}
 use Rattle.db_model.specs.Typing.{domain_of}
+use Rattle.cursor.specs.declared.block.Block.{Block}
 use Rattle.cursor.specs.declared.join.JoinCursor.{JoinCursor}
+use Rattle.cursor.specs.Blocks.{IsBlockOf, cost_by_block}
 use Rattle.cursor.specs.Pairs.{FitsPairs, HasAhead, FitsInner, belongs, join_cost_ahead, matching, pairs_left, right_side_costs as costs_right}
 use Rattle.index_set.specs.declared.candidates.Candidates.{Candidates}
 use Rattle.index_set.specs.declared.info.IndexInfo.{IndexInfo}
@@ -148,23 +150,25 @@ begun state tables l r left_on right_on c left right indexes left_is right_is le
 
 -- ---- the loop
 
-pub record JoinGoes (state : State) (tables : Tables) (lefts rights : List Row) (places : List Side) (before now : JoinCursor) (held held_now : Option (List ℕ)) (count reads reads_now : ℕ) : Type 0 where
+pub record JoinGoes (state : State) (tables : Tables) (lefts rights : List Row) (places : List Side) (b b_now : Block) (before now : JoinCursor) (held held_now : Option (List ℕ)) (count reads reads_now : ℕ) : Type 0 where
   pub fits : FitsPairs now state tables
+  pub block : IsBlockOf b_now now lefts rights
   pub wrote : Wrote (joined_left places before lefts rights) (joined_left places now lefts rights) held held_now count
-  pub few : reads_now + join_cost_ahead now lefts rights ≤ reads + join_cost_ahead before lefts rights
+  pub few : reads_now + cost_by_block b_now now lefts rights ≤ reads + cost_by_block b before lefts rights
 
-pub join_begins : (state : State) (tables : Tables) (lefts rights : List Row) (places : List Side) (c : JoinCursor) (h : Option (List ℕ)) (reads : ℕ)
-    → FitsPairs c state tables → JoinGoes state tables lefts rights places c c h h 0 reads reads
-join_begins state tables lefts rights places c h reads fits = record { fits = fits; wrote = wrote_none (joined_left places c lefts rights) h; few = omega arith }
+pub join_begins : (state : State) (tables : Tables) (lefts rights : List Row) (places : List Side) (b : Block) (c : JoinCursor) (h : Option (List ℕ)) (reads : ℕ)
+    → FitsPairs c state tables → IsBlockOf b c lefts rights → JoinGoes state tables lefts rights places b b c c h h 0 reads reads
+join_begins state tables lefts rights places b c h reads fits block = record { fits = fits; block = block; wrote = wrote_none (joined_left places c lefts rights) h; few = omega arith }
 
-pub join_goes_on : (state : State) (tables : Tables) (lefts rights : List Row) (places : List Side) (before now after : JoinCursor) (h0 h1 h2 : Option (List ℕ)) (count reads r1 r2 : ℕ)
-    → JoinGoes state tables lefts rights places before now h0 h1 count reads r1
+pub join_goes_on : (state : State) (tables : Tables) (lefts rights : List Row) (places : List Side) (b b_now b_after : Block) (before now after : JoinCursor) (h0 h1 h2 : Option (List ℕ)) (count reads r1 r2 : ℕ)
+    → JoinGoes state tables lefts rights places b b_now before now h0 h1 count reads r1
     → WroteNext (Ok true) (joined_left places now lefts rights) (joined_left places after lefts rights) h1 h2
-    → FitsPairs after state tables
-    → r2 + join_cost_ahead after lefts rights ≤ r1 + join_cost_ahead now lefts rights
-    → JoinGoes state tables lefts rights places before after h0 h2 (count + 1) reads r2
-join_goes_on state tables lefts rights places before now after h0 h1 h2 count reads r1 r2 s next fits few = record {
+    → FitsPairs after state tables → IsBlockOf b_after after lefts rights
+    → r2 + cost_by_block b_after after lefts rights ≤ r1 + cost_by_block b_now now lefts rights
+    → JoinGoes state tables lefts rights places b b_after before after h0 h2 (count + 1) reads r2
+join_goes_on state tables lefts rights places b b_now b_after before now after h0 h1 h2 count reads r1 r2 s next fits block few = record {
   fits = fits;
+  block = block;
   wrote = wrote_more (joined_left places before lefts rights) (joined_left places now lefts rights) (joined_left places after lefts rights) h0 h1 h2 count s.wrote next;
   few = omega (arith, s.few, few);
 }
@@ -174,9 +178,9 @@ none_left [] h = refl
 none_left (x ∷ xs) h = absurd (omega arith)
 
 -- so many were written that none can be left
-pub join_ended : (state : State) (tables : Tables) (lefts rights : List Row) (places : List Side) (before now : JoinCursor) (h0 h1 : Option (List ℕ)) (count reads r1 : ℕ)
-    → JoinGoes state tables lefts rights places before now h0 h1 count reads r1 → length (pairs_left before lefts rights) ≤ count → WroteAll (joined_left places before lefts rights) h0 h1 count
-join_ended state tables lefts rights places before now h0 h1 count reads r1 s few =
+pub join_ended : (state : State) (tables : Tables) (lefts rights : List Row) (places : List Side) (b b_now : Block) (before now : JoinCursor) (h0 h1 : Option (List ℕ)) (count reads r1 : ℕ)
+    → JoinGoes state tables lefts rights places b b_now before now h0 h1 count reads r1 → length (pairs_left before lefts rights) ≤ count → WroteAll (joined_left places before lefts rights) h0 h1 count
+join_ended state tables lefts rights places b b_now before now h0 h1 count reads r1 s few =
     let all = joined_left places before lefts rights in
     let left = joined_left places now lefts rights in
     let e : length all ≡ length (pairs_left before lefts rights) = length-map (pairs_left before lefts rights) (project_pair places) in

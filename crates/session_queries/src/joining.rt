@@ -7,7 +7,8 @@ ghost use Rattle.afl_base.specs.Files.{Table};
 ghost use Rattle.db_model.specs.declared.commands.Query.TheVariants as query;
 ghost use Rattle.db_model.specs.Cost.{query_cost, right_costs};
 ghost use Rattle.db_model.specs.Step.{Rows, answer_of};
-ghost use Rattle.cursor.specs.Pairs.{FitsPairs, MayReadPairs, join_cost_ahead, matching, pairs_left};
+ghost use Rattle.cursor.specs.Blocks.{IsBlockOf, MayReadBy, cost_by_block};
+ghost use Rattle.cursor.specs.Pairs.{FitsPairs, MayReadPairs, matching, pairs_left};
 ghost use Rattle.index_set.specs.Plans.{kinds};
 ghost use Rattle.tuple_file.specs.Tuples.{rows};
 ghost use Rattle.session_model.specs.declared.held.Open.{Open as AnyOpen};
@@ -19,7 +20,7 @@ ghost use Rattle.session_queries.specs.Replies.{WroteNext, WroteRows, joined_lef
 
 use crate::finding::{Found, find};
 use afl_base::{Fault, Files, Sink};
-use cursor::JoinCursor;
+use cursor::{Block, JoinCursor};
 use db_model::{Few, Ident, Idents, Refusal, Tuple};
 use index_set::HashTables;
 use reply_text::{write_row, write_rows};
@@ -142,7 +143,8 @@ fn join_all<V: Files, K: Sink>(
         left_on,
         right_on,
     );
-    join_rows(files, tables, &mut cursor, &places, out)
+    let mut block = Block::over(&cursor);
+    join_rows(files, tables, &mut cursor, &mut block, &places, out)
 }
 
 // Writes the pairs that a cursor has still to answer, and says how many there were. No more than
@@ -151,27 +153,33 @@ fn join_rows<V: Files, K: Sink>(
     files: &mut V,
     tables: &HashTables,
     cursor: &mut JoinCursor,
+    block: &mut Block,
     places: &Few<Side, 8>,
     out: &mut K,
 ) -> Result<u32, Fault>
     requires may_read { MayReadPairs (V.state files.old) cursor.old }
+    requires block { MayReadBy block.old cursor.old }
     ensures wrote { let state = V.state files.old in let lefts = rows state.files cursor.old.left in
         let rights = rows state.files cursor.old.right in
         IsTrue state.tells → FitsPairs cursor.old state tables.now
+        → IsBlockOf block.old cursor.old lefts rights
         → length (pairs_left cursor.old lefts rights) ≤ cursor.old.left_slots * cursor.old.right_slots
         → WroteRows result (joined_left places.now cursor.old lefts rights)
         (K.held out.old) (K.held out.new) }
     ensures reads { let state = V.state files.old in let lefts = rows state.files cursor.old.left in
         let rights = rows state.files cursor.old.right in
         IsTrue state.tells → FitsPairs cursor.old state tables.now
-        → V.reads files.new ≤ V.reads files.old + join_cost_ahead cursor.old lefts rights }
+        → IsBlockOf block.old cursor.old lefts rights
+        → V.reads files.new ≤ V.reads files.old + cost_by_block block.old cursor.old lefts rights }
     ensures frame { Recites V.Files K.Sink files.old files.new out.old out.new result }
 {
     let most = u32::from(cursor.left_slots) * u32::from(cursor.right_slots);
     let mut left = Tuple::new();
     let mut right = Tuple::new();
     for count in 0..most {
-        match join_next(files, tables, cursor, places, &mut left, &mut right, out) {
+        match join_next(
+            files, tables, cursor, block, places, &mut left, &mut right, out,
+        ) {
             Ok(found) => {
                 if !found {
                     return Ok(count);
@@ -189,36 +197,47 @@ fn join_next<V: Files, K: Sink>(
     files: &mut V,
     tables: &HashTables,
     cursor: &mut JoinCursor,
+    block: &mut Block,
     places: &Few<Side, 8>,
     left: &mut Tuple,
     right: &mut Tuple,
     out: &mut K,
 ) -> Result<bool, Fault>
     requires may_read { MayReadPairs (V.state files.old) cursor.old }
+    requires block { MayReadBy block.old cursor.old }
     ensures wrote { let state = V.state files.old in let lefts = rows state.files cursor.old.left in
         let rights = rows state.files cursor.old.right in
         IsTrue state.tells → FitsPairs cursor.old state tables.now
+        → IsBlockOf block.old cursor.old lefts rights
         → WroteNext result (joined_left places.now cursor.old lefts rights)
         (joined_left places.now cursor.new lefts rights) (K.held out.old) (K.held out.new) }
-    ensures fits { IsTrue (V.state files.old).tells → OnOk result (
-        FitsPairs cursor.old (V.state files.old) tables.now
-        → FitsPairs cursor.new (V.state files.old) tables.now) }
+    ensures fits { let state = V.state files.old in let lefts = rows state.files cursor.old.left in
+        let rights = rows state.files cursor.old.right in
+        IsTrue state.tells → OnOk result (FitsPairs cursor.old state tables.now
+        → IsBlockOf block.old cursor.old lefts rights → FitsPairs cursor.new state tables.now) }
+    ensures holds { let state = V.state files.old in let lefts = rows state.files cursor.old.left in
+        let rights = rows state.files cursor.old.right in
+        IsTrue state.tells → OnOk result (FitsPairs cursor.old state tables.now
+        → IsBlockOf block.old cursor.old lefts rights → IsBlockOf block.new cursor.new lefts rights) }
     ensures stands { OnOk result (cursor.new ≡ record cursor.old
         { at = cursor.new.at; from = cursor.new.from; inner = cursor.new.inner }) }
     ensures may_read { OnOk result (MayReadPairs (V.state files.old) cursor.new) }
+    ensures block { OnOk result (MayReadBy block.new cursor.new) }
     ensures reads { let state = V.state files.old in let lefts = rows state.files cursor.old.left in
         let rights = rows state.files cursor.old.right in
         IsTrue state.tells → OnOk result (FitsPairs cursor.old state tables.now
-        → V.reads files.new + join_cost_ahead cursor.new lefts rights
-        ≤ V.reads files.old + join_cost_ahead cursor.old lefts rights) }
+        → IsBlockOf block.old cursor.old lefts rights
+        → V.reads files.new + cost_by_block block.new cursor.new lefts rights
+        ≤ V.reads files.old + cost_by_block block.old cursor.old lefts rights) }
     ensures reads_err { let state = V.state files.old in
         let lefts = rows state.files cursor.old.left in
         let rights = rows state.files cursor.old.right in
         IsTrue state.tells → OnErr result (FitsPairs cursor.old state tables.now
-        → V.reads files.new ≤ V.reads files.old + join_cost_ahead cursor.old lefts rights) }
+        → IsBlockOf block.old cursor.old lefts rights
+        → V.reads files.new ≤ V.reads files.old + cost_by_block block.old cursor.old lefts rights) }
     ensures frame { Recites V.Files K.Sink files.old files.new out.old out.new result }
 {
-    match cursor.next(files, tables, left, right) {
+    match cursor.next_by_block(files, tables, block, left, right) {
         Ok(true) => {}
         Ok(false) => return Ok(false),
         Err(_) => return Err(Fault::Flash),

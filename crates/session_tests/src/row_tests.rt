@@ -230,6 +230,18 @@ const FETCHED: &[Case] = &[
         ],
     },
     Case {
+        shows: "a left row behind 256 others finds its pair",
+        script: &[
+            Part::Once(JOINED),
+            Part::Often("INSERT (4, 0) INTO l;", 256),
+            Part::Once("INSERT (3, 50) INTO l;JOIN l, r ON a PROJECT x, y;"),
+        ],
+        replies: &[
+            Part::Often("ok\n", 269),
+            Part::Once("10,7\n10,8\n30,7\n30,8\n50,9\nrows 5\n"),
+        ],
+    },
+    Case {
         shows: "pairs are fetched as they were when asked for",
         script: &[
             Part::Once(JOINED),

@@ -8,13 +8,13 @@ use Rattle.session_queries.proofs.Paired.{join_begins, join_ended, join_goes_on}
 use Rattle.session_queries.proofs.joining.join_rows.Goals as goal
 
 pub returns-then-not-found-clause-wrote : goal.returns-then-not-found-clause-wrote
-returns-then-not-found-clause-wrote g c = λ t f few.
+returns-then-not-found-clause-wrote g c = λ t f b few.
     let inv = c.loop-count.invariant in
-    let s = inv.told t f in
+    let s = inv.told t f b in
     let lefts = ap (λ (x : Tuples). rows (g.V.Files.state c.args.files.now).files x) inv.left in
     let rights = ap (λ (x : Tuples). rows (g.V.Files.state c.args.files.now).files x) inv.right in
     let found : c.in-Ok.found ≡ false = search rules in
-    let last = rw found at ((rw (inv.same, lefts, rights) at c.in-Ok.ensures.wrote) t s.fits) in
+    let last = rw found at ((rw (inv.same, lefts, rights) at c.in-Ok.ensures.wrote) t s.fits s.block) in
     let files = (g.V.Files.state c.args.files.now).files in
     let now = c.args.cursor.now in
     let whole = joined_left c.args.places.now now (rows files now.left) (rows files now.right) in
@@ -25,17 +25,17 @@ returns-then-not-found-clause-wrote g c = λ t f few.
     record { counted = all.counted; written = last.1 ∙ all.written }
 
 pub returns-then-not-found-clause-reads : goal.returns-then-not-found-clause-reads
-returns-then-not-found-clause-reads g c = λ t f.
+returns-then-not-found-clause-reads g c = λ t f b.
     let inv = c.loop-count.invariant in
-    let s = inv.told t f in
+    let s = inv.told t f b in
     let lefts = ap (λ (x : Tuples). rows (g.V.Files.state c.args.files.now).files x) inv.left in
     let rights = ap (λ (x : Tuples). rows (g.V.Files.state c.args.files.now).files x) inv.right in
-    omega (arith, s.few, (rw (inv.same, lefts, rights) at c.in-Ok.ensures.reads) t s.fits)
+    omega (arith, s.few, (rw (inv.same, lefts, rights) at c.in-Ok.ensures.reads) t s.fits s.block)
 
 pub returns-in-Err-clause-wrote : goal.returns-in-Err-clause-wrote
-returns-in-Err-clause-wrote g c = λ t f few.
+returns-in-Err-clause-wrote g c = λ t f b few.
     let inv = c.loop-count.invariant in
-    let s = inv.told t f in
+    let s = inv.told t f b in
     let lefts = ap (λ (x : Tuples). rows (g.V.Files.state c.args.files.now).files x) inv.left in
     let rights = ap (λ (x : Tuples). rows (g.V.Files.state c.args.files.now).files x) inv.right in
     let files = (g.V.Files.state c.args.files.now).files in
@@ -45,15 +45,15 @@ returns-in-Err-clause-wrote g c = λ t f few.
     let h0 = g.K.Sink.held c.args.out.now in
     let h1 = g.K.Sink.held c.loop-count.out in
     rows_failed whole left (joined_left c.args.places.now c.join_next.new.cursor (rows files now.left) (rows files now.right)) h0 h1 (g.K.Sink.held c.join_next.new.out) c.loop-count.count c.in-Err.stop s.wrote
-    ((rw (inv.same, lefts, rights) at c.in-Err.ensures.wrote) t s.fits)
+    ((rw (inv.same, lefts, rights) at c.in-Err.ensures.wrote) t s.fits s.block)
 
 pub returns-in-Err-clause-reads : goal.returns-in-Err-clause-reads
-returns-in-Err-clause-reads g c = λ t f.
+returns-in-Err-clause-reads g c = λ t f b.
     let inv = c.loop-count.invariant in
-    let s = inv.told t f in
+    let s = inv.told t f b in
     let lefts = ap (λ (x : Tuples). rows (g.V.Files.state c.args.files.now).files x) inv.left in
     let rights = ap (λ (x : Tuples). rows (g.V.Files.state c.args.files.now).files x) inv.right in
-    omega (arith, s.few, (rw (inv.same, lefts, rights) at c.in-Err.ensures.reads_err) t s.fits)
+    omega (arith, s.few, (rw (inv.same, lefts, rights) at c.in-Err.ensures.reads_err) t s.fits s.block)
 
 pub loop-count-preserved : goal.loop-count-preserved
 loop-count-preserved g c =
@@ -72,19 +72,20 @@ loop-count-preserved g c =
       left = ap (λ (z : JoinCursor). z.left) h.stands ∙ inv.left;
       right = ap (λ (z : JoinCursor). z.right) h.stands ∙ inv.right;
       may_read = rw inv.same at h.may_read;
-      told = λ t f.
-          let s = inv.told t f in
+      block = h.block;
+      told = λ t f b.
+          let s = inv.told t f b in
           join_goes_on (g.V.Files.state c.args.files.now) c.args.tables.now (rows (g.V.Files.state c.args.files.now).files c.args.cursor.now.left) (rows (g.V.Files.state c.args.files.now).files c.args.cursor.now.right)
-          c.args.places.now c.args.cursor.now c.loop-count.cursor c.join_next.new.cursor (g.K.Sink.held c.args.out.now) (g.K.Sink.held c.loop-count.out) (g.K.Sink.held c.join_next.new.out)
+          c.args.places.now c.args.block.now c.loop-count.block c.join_next.new.block c.args.cursor.now c.loop-count.cursor c.join_next.new.cursor (g.K.Sink.held c.args.out.now) (g.K.Sink.held c.loop-count.out) (g.K.Sink.held c.join_next.new.out)
           c.loop-count.count (g.V.Files.reads c.args.files.now) (g.V.Files.reads c.loop-count.files) (g.V.Files.reads c.join_next.new.files) s
-          (rw found at ((rw (inv.same, lefts, rights) at h.wrote) t s.fits))
-          ((rw inv.same at h.fits) t s.fits) ((rw (inv.same, lefts, rights) at h.reads) t s.fits);
+          (rw found at ((rw (inv.same, lefts, rights) at h.wrote) t s.fits s.block))
+          ((rw (inv.same, lefts, rights) at h.fits) t s.fits s.block) ((rw (inv.same, lefts, rights) at h.holds) t s.fits s.block) ((rw (inv.same, lefts, rights) at h.reads) t s.fits s.block);
     }
 
 pub returns-clause-wrote : goal.returns-clause-wrote
-returns-clause-wrote g c = λ t f few.
+returns-clause-wrote g c = λ t f b few.
     let inv = c.loop-count.invariant in
-    let s = inv.told t f in
+    let s = inv.told t f b in
     let many : c.args.cursor.now.left_slots * c.args.cursor.now.right_slots ≡ c.from.result * c.from-2.result =
     ap (λ (n : ℕ). n * c.args.cursor.now.right_slots) (sym c.from.ensures) ∙ ap (λ (n : ℕ). c.from.result * n) (sym c.from-2.ensures) in
     let most : c.loop-count.count ≡ c.from.result * c.from-2.result = omega arith in
@@ -96,7 +97,7 @@ returns-clause-wrote g c = λ t f few.
     let h1 = g.K.Sink.held c.loop-count.out in
     subst (WroteAll whole h0 h1) most
     (join_ended (g.V.Files.state c.args.files.now) c.args.tables.now (rows (g.V.Files.state c.args.files.now).files c.args.cursor.now.left) (rows (g.V.Files.state c.args.files.now).files c.args.cursor.now.right)
-    c.args.places.now c.args.cursor.now c.loop-count.cursor h0 h1 c.loop-count.count (g.V.Files.reads c.args.files.now) (g.V.Files.reads c.loop-count.files) s (omega (arith, few, many)))
+    c.args.places.now c.args.block.now c.loop-count.block c.args.cursor.now c.loop-count.cursor h0 h1 c.loop-count.count (g.V.Files.reads c.args.files.now) (g.V.Files.reads c.loop-count.files) s (omega (arith, few, many)))
 
 pub loop-count-init : goal.loop-count-init
 loop-count-init g c = record {
@@ -109,7 +110,8 @@ loop-count-init g c = record {
   left = refl;
   right = refl;
   may_read = c.requires.may_read;
-  told = λ t f.
+  block = c.requires.block;
+  told = λ t f b.
       join_begins (g.V.Files.state c.args.files.now) c.args.tables.now (rows (g.V.Files.state c.args.files.now).files c.args.cursor.now.left) (rows (g.V.Files.state c.args.files.now).files c.args.cursor.now.right)
-      c.args.places.now c.args.cursor.now (g.K.Sink.held c.args.out.now) (g.V.Files.reads c.args.files.now) f;
+      c.args.places.now c.args.block.now c.args.cursor.now (g.K.Sink.held c.args.out.now) (g.V.Files.reads c.args.files.now) f b;
 }
