@@ -11,15 +11,18 @@ use Rattle.afl_base.proofs.FrameLaws.{becomes_as}
 use Rattle.catalog.specs.Rules.{catalog_bytes_in, is_tree}
 use Rattle.catalog.proofs.Decoding.{length-attributes}
 use Rattle.catalog.proofs.Named.{named_found, named_none}
+use Rattle.padded.proofs.Facts.{lt_true}
 use Rattle.db_model.specs.declared.schemas.Schema.{Schema}
 use Rattle.db_model.specs.Catalog.{index_at, index_slot_bytes, relation_at, relation_slot_bytes, relation_slot_of, schema_of, version_of}
 use Rattle.db_model.specs.Database.{Database}
 use Rattle.space_model.specs.FileNames.{bytes_in_file, bytes_named, catalog_file, is_there, rows_file, tree_file}
+use Rattle.stored.specs.CutTables.{IsSlot}
 use Rattle.stored.specs.Mended.{mended_base, mended_version, standing, whole_bytes, whole_catalog}
 use Rattle.stored.proofs.CatalogParts.{overwritten_cleared, overwritten_index, relation_not_changed}
 use Rattle.stored.proofs.MendedBase.{alike_is, base_same_slots, index_mended, index_stays, index_waits, relation_mended_at, relation_read, relation_stays, version_mended, whole_long, whole_short}
 use Rattle.stored.proofs.MendedTables.{AreRowsKept, ReadsIndex, ReadsRelation, ReadsSame, mended_alike}
-use Rattle.stored_mend.specs.Mending.{HasInSlot, IsWholeCatalog, KeepsBase, MendsAsBefore, WantsMark}
+use Rattle.stored.specs.declared.half.Half.{Half}
+use Rattle.stored_mend.specs.Mending.{HasInSlot, IsStrangeSlot, IsWholeCatalog, KeepsBase, MendsAsBefore, WantsMark}
 use Rattle.stored_mend.proofs.CatalogRead.{appended_reads, taken_back, version_by, version_marked}
 use Rattle.stored_mend.proofs.OneFile.{becomes_changes, catalog_changed}
 use Rattle.stored.proofs.MendedTables.{read_schema as schema_read}
@@ -41,7 +44,7 @@ mends_kept a b k = record { base = k.base; draft = k.draft; tells = k.tells }
 
 -- ---- the file of the catalog
 
-catalog_before : (files : Table) (cat : ℕ) → IsWholeCatalog files cat → catalog_bytes_in files ≡ bytes_at files cat
+pub catalog_before : (files : Table) (cat : ℕ) → IsWholeCatalog files cat → catalog_bytes_in files ≡ bytes_at files cat
 catalog_before files cat w = ap bytes_in_file (named_found files cat catalog_file w.named w.only ∙ place_live files cat (named_live files cat catalog_file w.named))
 
 pub whole_found : (files : Table) (cat : ℕ) → IsWholeCatalog files cat → whole_catalog files ≡ bytes_at files cat
@@ -67,6 +70,15 @@ slot_given None state cat slot bytes w is read = tt
 slot_given (Some r) state cat slot bytes w is read = λ told.
     ap (λ (xs : List ℕ). relation_at xs slot) (whole_found state.files cat w) ∙ ap relation_slot_of (sym (read told)) ∙ sym is
 
+-- and what it is where it is none that a cut leaves
+pub slot_strange : (o : Option (Option Schema)) (files : Table) (cat slot : ℕ) (bytes : List ℕ) → IsWholeCatalog files cat
+    → IfNone o ((half : Half) (version k : ℕ) → IsSlot half version k bytes (relation_slot_of bytes) → ⊥)
+    → bytes ≡ slice_range (bytes_at files cat) (176 * slot) (176 * slot + 176) → IfNone o (IsStrangeSlot files slot)
+slot_strange (Some r) files cat slot bytes w strange read = tt
+slot_strange None files cat slot bytes w strange read = λ half version s.
+    strange half version slot (subst (λ (xs : List ℕ). IsSlot half version slot xs (relation_slot_of xs))
+    (ap (λ (xs : List ℕ). slice_range xs (176 * slot) (176 * slot + 176)) (whole_found files cat w) ∙ sym read) s)
+
 -- the number that a slot was made of
 pub slot_is : (n id : ℕ) → Some id ≡ (if nat_lt n 8 then Some n else None) → id ≡ n
 slot_is n id e = by_test (nat_lt n 8) e
@@ -74,6 +86,10 @@ slot_is n id e = by_test (nat_lt n 8) e
     by_test : (b : Bool) → Some id ≡ (if b then Some n else None) → id ≡ n
     by_test true e = cc
     by_test false e = cc
+
+-- a slot below 8 has a number
+pub slot_number : (n : ℕ) → n < 8 → (o : Option ℕ) → ((id : ℕ) → o ≡ Some id → ⊥) → o ≡ (if nat_lt n 8 then Some n else None) → ⊥
+slot_number n below o none e = none n (e ∙ ap (λ (b : Bool). if b then Some n else None) (lt_true n 8 below))
 
 -- the bytes that a step leaves, before and behind which room was made
 
@@ -89,7 +105,7 @@ module _ (old new : State) (cat total : ℕ) (told : List ℕ) (w : IsWholeCatal
   before : catalog_bytes_in old.files ≡ bytes_at old.files cat
   before = catalog_before old.files cat w
 
-  after : IsTrue old.tells → catalog_bytes_in new.files ≡ told
+  pub after : IsTrue old.tells → catalog_bytes_in new.files ≡ told
   after t =
       let names = names_stay old new cat total told (named_live old.files cat catalog_file w.named) b in
       ap bytes_in_file (named_found new.files cat catalog_file (names cat ∙ w.named) (λ k h. w.only k (sym (names k) ∙ h)) ∙ place_live new.files cat b.live) ∙ b.bytes t

@@ -59,7 +59,7 @@ module _ (slot : List ℕ) (size : length slot ≡ 176) (used : (slice_index slo
   read_is = used_slot slot used
 
   -- a slot that a cut can have left has few attributes, and is that of a relation once they are all
-  cut_slot : (half : Half) (version k : ℕ) (o : Option Schema) → o ≡ Some schema → IsSlot half version k slot o → (is_schema 2 schema ≡ true) × (cleared slot (length schema.attributes) ≡ relation_slot_bytes (Some schema))
+  pub cut_slot : (half : Half) (version k : ℕ) (o : Option Schema) → o ≡ Some schema → IsSlot half version k slot o → (is_schema 2 schema ≡ true) × (cleared slot (length schema.attributes) ≡ relation_slot_bytes (Some schema))
   cut_slot half version k None e s = absurd (let n : ⊥ = cc in n)
   cut_slot half version k (Some other) e (inl written) =
       let same : other ≡ schema = cc in

@@ -7,8 +7,10 @@ use Rattle.db_model.specs.Catalog.{relation_at}
 use Rattle.db_model.specs.Database.{Database}
 use Rattle.space_model.specs.FileNames.{catalog_file}
 use Rattle.stored.specs.Base.{base_of}
+use Rattle.stored.specs.CutTables.{IsSlot, slot_bytes}
 use Rattle.stored.specs.Mended.{mended_base, mended_version, whole_catalog}
 use Rattle.stored.specs.Sound.{IsSoundTable}
+use Rattle.stored.specs.declared.half.Half.{Half}
 use Rattle.stored_mend.specs.Filled.{IsFilled}
 use Rattle.stored_mend.specs.Trees.{LosesTreesFor}
 
@@ -55,6 +57,10 @@ pub record IsWholeCatalog (files : Table) (cat : ℕ) : Type 0 where
 -- what the slot of a relation is read as, where bytes are told
 abbrev pub HasInSlot : State → ℕ → Option Schema → Type 0
 HasInSlot state slot relation = IsTrue state.tells → relation_at (whole_catalog state.files) slot ≡ relation
+
+-- the slot of a relation is none that a cut leaves
+abbrev pub IsStrangeSlot : Table → ℕ → Type 0
+IsStrangeSlot files slot = (half : Half) (version : ℕ) → IsSlot half version slot (slot_bytes files slot) (relation_at (whole_catalog files) slot) → ⊥
 
 -- the catalog mends to one of version 2, where bytes are told
 abbrev pub WantsMark : State → Type 0

@@ -2,13 +2,19 @@
 
 #![tactic(auto)]
 
-ghost use Rattle.std.specs.Prelude.{◌≡◌, ◌≢◌, ◌≤◌, ◌<◌, ◌+◌, ◌-◌, IfSome, IsTrue, None, OnOk, Some, length, slice_index};
+ghost use Rattle.std.specs.Prelude.{◌≡◌, ◌≢◌, ◌≤◌, ◌<◌, ◌+◌, ◌-◌, ℕ, IfNone, IfSome, IsTrue, None, OnOk, Some, length, slice_index};
 ghost use Rattle.afl_base.specs.Files.{IsLive, Overwrites, file_at, size_at};
 ghost use Rattle.afl_base.specs.Keeping.{ChangesOrLacks, OnlyReads};
 ghost use Rattle.afl_base.specs.declared.kind.Kind.TheVariants.{Fixed};
+ghost use Rattle.catalog.specs.Rules.{first_broken};
 ghost use Rattle.db_model.specs.Catalog.{relation_slot_bytes};
-ghost use Rattle.stored.specs.Mended.{has_time, mended_base};
+ghost use Rattle.space_model.specs.FileNames.{catalog_file};
+ghost use Rattle.stored.specs.CutTables.{IsCutTable, IsHalfDone};
+ghost use Rattle.stored.specs.Mended.{has_time, is_time_domain, mended_base};
+ghost use Rattle.stored.specs.declared.half.Half.{Half};
+ghost use Rattle.stored_mend.specs.Listed.{HasWrittenCatalog, IsListedTo, IsMarkedHalf, IsMarkedSlot, IsTakenBack, KeepsKnown, LacksTree, indexes_below, relations_below};
 ghost use Rattle.stored_mend.specs.Mending.{HasInSlot, IsWholeCatalog, MendsAsBefore, WantsMark};
+ghost use Rattle.stored_mend.specs.Trees.{SparesButOne};
 
 use crate::listing::{SIZE_OF_VERSION_1, VERSION_MARK, relation_in, whole_catalog};
 use crate::report::{Mended, Report};
@@ -27,6 +33,8 @@ pub fn take_back_catalog<V: Files>(files: &mut V, report: &mut Report) -> Result
     ensures base { OnOk result
         (mended_base (V.state files.new).files ≡ mended_base (V.state files.old).files) }
     ensures kept { OnOk result (MendsAsBefore (V.state files.old) (V.state files.new)) }
+    ensures listed { IsCutTable (V.state files.old).files
+        → OnOk result (IsTakenBack (V.state files.new).files) }
     ensures frame { ChangesOrLacks V.state V.lent V.reads V.faults V.lacks files.old files.new result }
 {
     let Some(cat) = files.find(catalog_file()) else {
@@ -41,16 +49,21 @@ pub fn take_back_catalog<V: Files>(files: &mut V, report: &mut Report) -> Result
     Ok(())
 }
 
-// The file of the catalog, where it has a catalog's kind and size.
+// The file of the catalog, where it has a catalog's kind and size. Each file has one of 32 places.
 fn written_catalog<V: Files>(files: &V) -> Option<FileId>
     ensures live { IfSome result (λ cat. IsLive (V.state files.now).files cat) }
     ensures least { IfSome result (λ cat. 1472 ≤ size_at (V.state files.now).files cat) }
     ensures most { IfSome result (λ cat. size_at (V.state files.now).files cat ≤ 1480) }
     ensures kind { IfSome result (λ cat. (file_at (V.state files.now).files cat).kind ≡ Fixed 6) }
     ensures found { IfSome result (λ cat. IsWholeCatalog (V.state files.now).files cat) }
+    ensures none { IfNone result (HasWrittenCatalog (V.state files.now).files → ⊥) }
 {
     let cat = whole_catalog(files)?;
-    if files.size(cat) > 1_480 || files.kind(cat) != Kind::Fixed(6) {
+    files.live(cat);
+    if files.size(cat) > 1_480 {
+        return None;
+    }
+    if files.kind(cat) != Kind::Fixed(6) {
         return None;
     }
     Some(cat)
@@ -61,6 +74,8 @@ pub fn complete_mark<V: Files>(files: &mut V, report: &mut Report) -> Result<(),
     requires idle { (V.state files.old).draft ≡ None }
     ensures idle { OnOk result ((V.state files.new).draft ≡ None) }
     ensures kept { OnOk result (MendsAsBefore (V.state files.old) (V.state files.new)) }
+    ensures listed { IsTrue (V.state files.old).tells → IsTakenBack (V.state files.old).files
+        → OnOk result (IsListedTo (relations_below 0) (V.state files.new).files) }
     ensures frame { ChangesOrLacks V.state V.lent V.reads V.faults V.lacks files.old files.new result }
 {
     let Some(cat) = written_catalog(files) else {
@@ -83,6 +98,11 @@ fn write_mark<V: Files>(files: &mut V, cat: FileId, report: &mut Report) -> Resu
     ensures idle { OnOk result ((V.state files.new).draft ≡ None) }
     ensures kept { IsWholeCatalog (V.state files.old).files cat → WantsMark (V.state files.old)
         → OnOk result (MendsAsBefore (V.state files.old) (V.state files.new)) }
+    ensures known { IsWholeCatalog (V.state files.old).files cat
+        → OnOk result (KeepsKnown (V.state files.old).files (V.state files.new).files) }
+    ensures marked { IsTrue (V.state files.old).tells → IsWholeCatalog (V.state files.old).files cat
+        → WantsMark (V.state files.old) → (half : Half) → IsHalfDone (V.state files.old).files half
+        → OnOk result (IsMarkedHalf (V.state files.new).files half) }
     ensures frame { ChangesOrLacks V.state V.lent V.reads V.faults V.lacks files.old files.new result }
 {
     let written = (files.size(cat) - SIZE_OF_VERSION_1) as usize;
@@ -106,6 +126,9 @@ pub fn mend_relation<V: Files>(
     requires slot { slot < 8 }
     ensures idle { OnOk result ((V.state files.new).draft ≡ None) }
     ensures kept { OnOk result (MendsAsBefore (V.state files.old) (V.state files.new)) }
+    ensures listed { IsTrue (V.state files.old).tells
+        → IsListedTo (relations_below slot) (V.state files.old).files
+        → OnOk result (IsListedTo (relations_below (slot + 1)) (V.state files.new).files) }
     ensures frame { ChangesOrLacks V.state V.lent V.reads V.faults V.lacks files.old files.new result }
 {
     let Some(cat) = written_catalog(files) else {
@@ -141,6 +164,10 @@ fn empty_slot<V: Files>(
     ensures kept { IsWholeCatalog (V.state files.old).files cat
         → HasInSlot (V.state files.old) slot None
         → OnOk result (MendsAsBefore (V.state files.old) (V.state files.new)) }
+    ensures listed { IsTrue (V.state files.old).tells → IsWholeCatalog (V.state files.old).files cat
+        → HasInSlot (V.state files.old) slot None
+        → IsListedTo (relations_below slot) (V.state files.old).files
+        → OnOk result (IsListedTo (relations_below (slot + 1)) (V.state files.new).files) }
     ensures frame { ChangesOrLacks V.state V.lent V.reads V.faults V.lacks files.old files.new result }
 {
     let mut bytes = [0; 176];
@@ -190,6 +217,10 @@ fn mend_schema<V: Files>(
     ensures kept { IsWholeCatalog (V.state files.old).files cat
         → HasInSlot (V.state files.old) slot (Some schema.now)
         → OnOk result (MendsAsBefore (V.state files.old) (V.state files.new)) }
+    ensures listed { IsTrue (V.state files.old).tells → IsWholeCatalog (V.state files.old).files cat
+        → HasInSlot (V.state files.old) slot (Some schema.now)
+        → IsListedTo (relations_below slot) (V.state files.old).files
+        → OnOk result (IsListedTo (relations_below (slot + 1)) (V.state files.new).files) }
     ensures frame { ChangesOrLacks V.state V.lent V.reads V.faults V.lacks files.old files.new result }
 {
     mark_time(files, cat, schema, report)?;
@@ -212,6 +243,10 @@ fn mark_time<V: Files>(
     ensures kept { IsWholeCatalog (V.state files.old).files cat
         → (IsTrue (has_time (Some schema.now)) → WantsMark (V.state files.old))
         → OnOk result (MendsAsBefore (V.state files.old) (V.state files.new)) }
+    ensures marked { IsTrue (V.state files.old).tells → IsWholeCatalog (V.state files.old).files cat
+        → (slot : ℕ) → slot < 8 → HasInSlot (V.state files.old) slot (Some schema.now)
+        → IsListedTo (relations_below slot) (V.state files.old).files
+        → OnOk result (IsMarkedSlot slot (V.state files.new).files) }
     ensures frame { ChangesOrLacks V.state V.lent V.reads V.faults V.lacks files.old files.new result }
 {
     if files.size(cat) != SIZE_OF_VERSION_1 {
@@ -225,14 +260,16 @@ fn mark_time<V: Files>(
 }
 
 fn has_time(schema: &Schema) -> bool
-    ensures { IsTrue result → IsTrue (has_time (Some schema.now)) }
+    ensures { result ≡ has_time (Some schema.now) }
 {
-    for attribute in schema.attributes.as_slice() {
-        if attribute.domain == Domain::Time {
-            return true;
-        }
-    }
-    false
+    let attributes = schema.attributes.as_slice();
+    attributes.iter().any(|attribute| is_time(attribute.domain))
+}
+
+fn is_time(domain: Domain) -> bool
+    ensures { result ≡ is_time_domain domain }
+{
+    matches!(domain, Domain::Time)
 }
 
 // Writes zeros after the attributes of a relation, where there are other bytes.
@@ -247,6 +284,10 @@ fn take_back_attribute<V: Files>(
     ensures idle { OnOk result ((V.state files.new).draft ≡ None) }
     ensures kept { HasInSlot (V.state files.old) slot (Some schema.now)
         → OnOk result (MendsAsBefore (V.state files.old) (V.state files.new)) }
+    ensures listed { IsTrue (V.state files.old).tells
+        → HasInSlot (V.state files.old) slot (Some schema.now)
+        → IsMarkedSlot slot (V.state files.old).files
+        → OnOk result (IsListedTo (relations_below (slot + 1)) (V.state files.new).files) }
     ensures frame { ChangesOrLacks V.state V.lent V.reads V.faults V.lacks files.old files.new result }
 {
     let Some(cat) = written_catalog(files) else {
@@ -272,6 +313,12 @@ pub fn mend_index<V: Files>(files: &mut V, slot: u16, report: &mut Report) -> Re
     requires slot { slot < 8 }
     ensures idle { OnOk result ((V.state files.new).draft ≡ None) }
     ensures kept { OnOk result (MendsAsBefore (V.state files.old) (V.state files.new)) }
+    ensures others { OnOk result (SparesButOne (V.state files.old) (V.state files.new) catalog_file) }
+    ensures sound { IsTrue (V.state files.old).tells → LacksTree (V.state files.old).files slot
+        → OnOk result (first_broken (V.state files.new).files ≡ None) }
+    ensures listed { IsTrue (V.state files.old).tells
+        → IsListedTo (indexes_below slot) (V.state files.old).files
+        → OnOk result (IsListedTo (indexes_below (slot + 1)) (V.state files.new).files) }
     ensures frame { ChangesOrLacks V.state V.lent V.reads V.faults V.lacks files.old files.new result }
 {
     let Some(cat) = written_catalog(files) else {

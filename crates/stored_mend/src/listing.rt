@@ -2,11 +2,11 @@
 
 #![tactic(auto)]
 
-ghost use Rattle.std.specs.Prelude.{◌≡◌, ◌≤◌, ◌<◌, [], IfNone, IfOk, IfSome};
+ghost use Rattle.std.specs.Prelude.{◌≡◌, ◌≤◌, ◌<◌, [], IfNone, IfOk, IfSome, IsTrue};
 ghost use Rattle.afl_base.specs.Files.{IsLive, size_at};
 ghost use Rattle.afl_base.specs.Keeping.{OnlyReads};
 ghost use Rattle.stored.specs.Mended.{whole_catalog};
-ghost use Rattle.stored_mend.specs.Mending.{HasInSlot, IsWholeCatalog};
+ghost use Rattle.stored_mend.specs.Mending.{HasInSlot, IsStrangeSlot, IsWholeCatalog};
 
 use crate::decoding::mended_relation;
 use afl_base::{Failed, FileId, Files};
@@ -44,6 +44,8 @@ pub fn relation_in<V: Files>(
     requires slot { slot < 8 }
     ensures read { IsWholeCatalog (V.state files.old).files cat
         → IfOk result (λ r. IfSome r (HasInSlot (V.state files.old) slot)) }
+    ensures strange { IsTrue (V.state files.old).tells → IsWholeCatalog (V.state files.old).files cat
+        → IfOk result (λ r. IfNone r (IsStrangeSlot (V.state files.old).files slot)) }
     ensures frame { OnlyReads V.state V.lent V.reads V.faults files.old files.new result }
 {
     let mut bytes = [0; 176];

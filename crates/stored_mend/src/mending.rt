@@ -4,9 +4,13 @@
 
 ghost use Rattle.std.specs.Prelude.{◌≡◌, IfOk, IfSome, IsTrue, None, OnOk, length, ⊤};
 ghost use Rattle.afl_base.specs.Keeping.{ChangesOrLacks, OnlyReads};
+ghost use Rattle.stored.specs.CutTables.{IsCutTable};
 ghost use Rattle.stored.specs.Mended.{mended_catalog};
+ghost use Rattle.stored.specs.declared.half.Half.{Half};
 ghost use Rattle.stored_mend.specs.Filled.{FillsIn};
+ghost use Rattle.stored_mend.specs.Listed.{IsListedTo, indexes_below, trees_below};
 ghost use Rattle.stored_mend.specs.Mending.{MendsAsBefore, PutsRight, StandsForMended};
+ghost use Rattle.stored_mend.specs.Stages.{IsCatalogSound};
 ghost use Rattle.stored_mend.specs.Trees.{LacksRoom};
 
 use crate::catalogs::{complete_mark, mend_index, mend_relation, take_back_catalog};
@@ -29,9 +33,22 @@ pub fn mend_database<V: Files>(files: &mut V, report: &mut Report) -> Result<(),
         (StandsForMended (V.state files.old).files (V.state files.new).files) }
     ensures frame { ChangesOrLacks V.state V.lent V.reads V.faults V.lacks files.old files.new result }
 {
+    mend_listing(files, report)?;
+    mend_listed(files, report)?;
+    Ok(())
+}
+
+// Repairs the catalog, and removes the files that it does not ask for.
+fn mend_listing<V: Files>(files: &mut V, report: &mut Report) -> Result<(), FileError>
+    requires idle { (V.state files.old).draft ≡ None }
+    ensures idle { OnOk result ((V.state files.new).draft ≡ None) }
+    ensures kept { OnOk result (MendsAsBefore (V.state files.old) (V.state files.new)) }
+    ensures listed { IsTrue (V.state files.old).tells → IsCutTable (V.state files.old).files
+        → OnOk result ((half : Half) × IsCatalogSound (V.state files.new).files half) }
+    ensures frame { ChangesOrLacks V.state V.lent V.reads V.faults V.lacks files.old files.new result }
+{
     mend_catalog(files, report)?;
     remove_strays(files, report)?;
-    mend_listed(files, report)?;
     Ok(())
 }
 
@@ -72,6 +89,8 @@ fn mend_catalog<V: Files>(files: &mut V, report: &mut Report) -> Result<(), File
     requires idle { (V.state files.old).draft ≡ None }
     ensures idle { OnOk result ((V.state files.new).draft ≡ None) }
     ensures kept { OnOk result (MendsAsBefore (V.state files.old) (V.state files.new)) }
+    ensures listed { IsTrue (V.state files.old).tells → IsCutTable (V.state files.old).files
+        → OnOk result (IsListedTo (indexes_below 8) (V.state files.new).files) }
     ensures frame { ChangesOrLacks V.state V.lent V.reads V.faults V.lacks files.old files.new result }
 {
     take_back_catalog(files, report)?;
@@ -90,6 +109,9 @@ fn remove_strays<V: Files>(files: &mut V, report: &mut Report) -> Result<(), Fil
     requires idle { (V.state files.old).draft ≡ None }
     ensures idle { OnOk result ((V.state files.new).draft ≡ None) }
     ensures kept { OnOk result (MendsAsBefore (V.state files.old) (V.state files.new)) }
+    ensures listed { IsTrue (V.state files.old).tells
+        → IsListedTo (indexes_below 8) (V.state files.old).files
+        → OnOk result (IsListedTo (trees_below 8) (V.state files.new).files) }
     ensures frame { ChangesOrLacks V.state V.lent V.reads V.faults V.lacks files.old files.new result }
 {
     for slot in 0..8u16 {

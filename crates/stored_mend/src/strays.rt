@@ -2,9 +2,10 @@
 
 #![tactic(auto)]
 
-ghost use Rattle.std.specs.Prelude.{◌≡◌, ◌<◌, IfOk, IsTrue, None, OnOk, slice_index};
+ghost use Rattle.std.specs.Prelude.{◌≡◌, ◌<◌, ◌+◌, IfOk, IsTrue, None, OnOk, slice_index};
 ghost use Rattle.afl_base.specs.Keeping.{Changes, OnlyReads};
 ghost use Rattle.stored.specs.Mended.{whole_catalog};
+ghost use Rattle.stored_mend.specs.Listed.{IsListedTo, rows_below, trees_below};
 ghost use Rattle.stored_mend.specs.Mending.{MendsAsBefore};
 
 use crate::listing::whole_catalog;
@@ -18,6 +19,9 @@ pub fn remove_rows<V: Files>(files: &mut V, slot: u16, report: &mut Report) -> R
     requires slot { slot < 8 }
     ensures idle { OnOk result ((V.state files.new).draft ≡ None) }
     ensures kept { OnOk result (MendsAsBefore (V.state files.old) (V.state files.new)) }
+    ensures listed { IsTrue (V.state files.old).tells
+        → IsListedTo (rows_below slot) (V.state files.old).files
+        → OnOk result (IsListedTo (rows_below (slot + 1)) (V.state files.new).files) }
     ensures frame { Changes V.state V.lent V.reads V.faults files.old files.new result }
 {
     let first = first_byte(files, 176 * u32::from(slot))?;
@@ -41,6 +45,9 @@ pub fn remove_tree<V: Files>(files: &mut V, slot: u16, report: &mut Report) -> R
     requires slot { slot < 8 }
     ensures idle { OnOk result ((V.state files.new).draft ≡ None) }
     ensures kept { OnOk result (MendsAsBefore (V.state files.old) (V.state files.new)) }
+    ensures listed { IsTrue (V.state files.old).tells
+        → IsListedTo (trees_below slot) (V.state files.old).files
+        → OnOk result (IsListedTo (trees_below (slot + 1)) (V.state files.new).files) }
     ensures frame { Changes V.state V.lent V.reads V.faults files.old files.new result }
 {
     let first = first_byte(files, 1_408 + 8 * u32::from(slot))?;

@@ -3,17 +3,15 @@ use Rattle.stored.specs.Mended.{mended_base}
 use Rattle.stored.proofs.MendedSound.{mended_of_sound}
 use Rattle.stored_mend.specs.Mending.{IsPutRight}
 use Rattle.stored_mend.specs.Trees.{LacksRoom}
-use Rattle.stored_mend.proofs.CatalogKept.{mends_then}
 use Rattle.stored_mend.proofs.PutRight.{mends_right, right_any}
 use Rattle.stored_mend.proofs.mending.mend_database.Goals as goal
 
 pub returns-clause-kept : goal.returns-clause-kept
 returns-clause-kept g c =
     let old = g.V.Files.state c.args.files.now in
-    let catalog = g.V.Files.state c.mend_catalog.new.files in
-    let strays = g.V.Files.state c.remove_strays.new.files in
+    let listed = g.V.Files.state c.mend_listing.new.files in
     let new = g.V.Files.state c.mend_listed.new.files in
-    mends_right (LacksRoom g.V.Files.state g.V.Files.lacks) old strays new (mends_then old catalog strays c.in_ok-mend_catalog.ensures.kept c.in_ok-remove_strays.ensures.kept) c.in_ok-mend_listed.ensures.kept
+    mends_right (LacksRoom g.V.Files.state g.V.Files.lacks) old listed new c.in_ok-mend_listing.ensures.kept c.in_ok-mend_listed.ensures.kept
 
 pub returns-clause-sound : goal.returns-clause-sound
 returns-clause-sound g c = λ told. record {

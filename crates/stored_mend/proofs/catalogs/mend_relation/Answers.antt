@@ -1,0 +1,16 @@
+use Rattle.std.proofs.Common.{◌+◌, refl, subst, sym}
+use Rattle.afl_base.specs.Files.{State}
+use Rattle.stored_mend.specs.Listed.{IsListedTo, relations_below}
+use Rattle.stored_mend.proofs.ListedSlots.{strange_listed}
+use Rattle.stored_mend.proofs.ListedSteps.{listed_unwritten}
+use Rattle.stored_mend.proofs.catalogs.mend_relation.Goals as goal
+
+pub returns-in_default-clause-listed : goal.returns-in_default-clause-listed
+returns-in_default-clause-listed g c = λ told l.
+    listed_unwritten (g.V.Files.state c.args.files.now).files (relations_below c.args.slot) (relations_below (c.args.slot + 1)) refl l c.in_default.ensures.none
+
+pub returns-in-None-clause-listed : goal.returns-in-None-clause-listed
+returns-in-None-clause-listed g c = λ told l.
+    subst (λ (s : State). IsListedTo (relations_below (c.args.slot + 1)) s.files) (sym c.in_ok-relation_in.ensures.frame.same)
+    (strange_listed (g.V.Files.state c.args.files.now).files c.in-Some.cat c.args.slot (relations_below c.args.slot) (relations_below (c.args.slot + 1)) c.requires.slot c.in-Some.ensures.found l
+    (rw c.in-None.is at (c.in_ok-relation_in.ensures.strange told c.in-Some.ensures.found)))

@@ -1,0 +1,8 @@
+use Rattle.std.proofs.Common.{◌∙◌}
+use Rattle.stored_mend.proofs.ListedSound.{listed_sound}
+use Rattle.stored_mend.proofs.mending.mend_listing.Goals as goal
+
+pub returns-clause-listed : goal.returns-clause-listed
+returns-clause-listed g c = λ told cut.
+    listed_sound (g.V.Files.state c.remove_strays.new.files).files
+    (c.in_ok-remove_strays.ensures.listed (c.in_ok-mend_catalog.ensures.kept.tells ∙ told) (c.in_ok-mend_catalog.ensures.listed told cut))
