@@ -11,6 +11,7 @@ use Rattle.afl_base.proofs.FrameLaws.{becomes_as}
 use Rattle.catalog.specs.Rules.{catalog_bytes_in, is_tree}
 use Rattle.catalog.proofs.Decoding.{length-attributes}
 use Rattle.catalog.proofs.Named.{named_found, named_none}
+use Rattle.padded.proofs.Facts.{lt_true}
 use Rattle.db_model.specs.declared.schemas.Schema.{Schema}
 use Rattle.db_model.specs.Catalog.{index_at, index_slot_bytes, relation_at, relation_slot_bytes, relation_slot_of, schema_of, version_of}
 use Rattle.db_model.specs.Database.{Database}
@@ -41,7 +42,7 @@ mends_kept a b k = record { base = k.base; draft = k.draft; tells = k.tells }
 
 -- ---- the file of the catalog
 
-catalog_before : (files : Table) (cat : ℕ) → IsWholeCatalog files cat → catalog_bytes_in files ≡ bytes_at files cat
+pub catalog_before : (files : Table) (cat : ℕ) → IsWholeCatalog files cat → catalog_bytes_in files ≡ bytes_at files cat
 catalog_before files cat w = ap bytes_in_file (named_found files cat catalog_file w.named w.only ∙ place_live files cat (named_live files cat catalog_file w.named))
 
 pub whole_found : (files : Table) (cat : ℕ) → IsWholeCatalog files cat → whole_catalog files ≡ bytes_at files cat
@@ -75,6 +76,10 @@ slot_is n id e = by_test (nat_lt n 8) e
     by_test true e = cc
     by_test false e = cc
 
+-- a slot below 8 has a number
+pub slot_number : (n : ℕ) → n < 8 → (o : Option ℕ) → ((id : ℕ) → o ≡ Some id → ⊥) → o ≡ (if nat_lt n 8 then Some n else None) → ⊥
+slot_number n below o none e = none n (e ∙ ap (λ (b : Bool). if b then Some n else None) (lt_true n 8 below))
+
 -- the bytes that a step leaves, before and behind which room was made
 
 pub prepared_appends : (a b c : State) (id : ℕ) (bytes : List ℕ) → KeepsBytes a b id → Appends b c id bytes → Appends a c id bytes
@@ -89,7 +94,7 @@ module _ (old new : State) (cat total : ℕ) (told : List ℕ) (w : IsWholeCatal
   before : catalog_bytes_in old.files ≡ bytes_at old.files cat
   before = catalog_before old.files cat w
 
-  after : IsTrue old.tells → catalog_bytes_in new.files ≡ told
+  pub after : IsTrue old.tells → catalog_bytes_in new.files ≡ told
   after t =
       let names = names_stay old new cat total told (named_live old.files cat catalog_file w.named) b in
       ap bytes_in_file (named_found new.files cat catalog_file (names cat ∙ w.named) (λ k h. w.only k (sym (names k) ∙ h)) ∙ place_live new.files cat b.live) ∙ b.bytes t

@@ -4,6 +4,8 @@ pub mod Copies
 pub mod FilledBase
 pub mod FilledFile
 pub mod FilledRows
+pub mod IndexBlank
+pub mod IndexGone
 pub mod KeptBase
 pub mod Least
 pub mod LineTexts

@@ -1,7 +1,9 @@
 pub mod Filled
 pub mod Keys
+pub mod Listed
 pub mod Mending
 pub mod Report
 pub mod Rows
 pub mod Slots
+pub mod Stages
 pub mod Trees

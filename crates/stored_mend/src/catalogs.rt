@@ -2,13 +2,17 @@
 
 #![tactic(auto)]
 
-ghost use Rattle.std.specs.Prelude.{◌≡◌, ◌≢◌, ◌≤◌, ◌<◌, ◌+◌, ◌-◌, IfSome, IsTrue, None, OnOk, Some, length, slice_index};
+ghost use Rattle.std.specs.Prelude.{◌≡◌, ◌≢◌, ◌≤◌, ◌<◌, ◌+◌, ◌-◌, IfNone, IfSome, IsTrue, None, OnOk, Some, length, slice_index};
 ghost use Rattle.afl_base.specs.Files.{IsLive, Overwrites, file_at, size_at};
 ghost use Rattle.afl_base.specs.Keeping.{ChangesOrLacks, OnlyReads};
 ghost use Rattle.afl_base.specs.declared.kind.Kind.TheVariants.{Fixed};
+ghost use Rattle.catalog.specs.Rules.{first_broken};
 ghost use Rattle.db_model.specs.Catalog.{relation_slot_bytes};
+ghost use Rattle.space_model.specs.FileNames.{catalog_file};
 ghost use Rattle.stored.specs.Mended.{has_time, mended_base};
+ghost use Rattle.stored_mend.specs.Listed.{HasWrittenCatalog, LacksTree};
 ghost use Rattle.stored_mend.specs.Mending.{HasInSlot, IsWholeCatalog, MendsAsBefore, WantsMark};
+ghost use Rattle.stored_mend.specs.Trees.{SparesButOne};
 
 use crate::listing::{SIZE_OF_VERSION_1, VERSION_MARK, relation_in, whole_catalog};
 use crate::report::{Mended, Report};
@@ -48,9 +52,14 @@ fn written_catalog<V: Files>(files: &V) -> Option<FileId>
     ensures most { IfSome result (λ cat. size_at (V.state files.now).files cat ≤ 1480) }
     ensures kind { IfSome result (λ cat. (file_at (V.state files.now).files cat).kind ≡ Fixed 6) }
     ensures found { IfSome result (λ cat. IsWholeCatalog (V.state files.now).files cat) }
+    ensures none { IfNone result (HasWrittenCatalog (V.state files.now).files → ⊥) }
 {
     let cat = whole_catalog(files)?;
-    if files.size(cat) > 1_480 || files.kind(cat) != Kind::Fixed(6) {
+    files.live(cat);
+    if files.size(cat) > 1_480 {
+        return None;
+    }
+    if files.kind(cat) != Kind::Fixed(6) {
         return None;
     }
     Some(cat)
@@ -272,6 +281,9 @@ pub fn mend_index<V: Files>(files: &mut V, slot: u16, report: &mut Report) -> Re
     requires slot { slot < 8 }
     ensures idle { OnOk result ((V.state files.new).draft ≡ None) }
     ensures kept { OnOk result (MendsAsBefore (V.state files.old) (V.state files.new)) }
+    ensures others { OnOk result (SparesButOne (V.state files.old) (V.state files.new) catalog_file) }
+    ensures sound { IsTrue (V.state files.old).tells → LacksTree (V.state files.old).files slot
+        → OnOk result (first_broken (V.state files.new).files ≡ None) }
     ensures frame { ChangesOrLacks V.state V.lent V.reads V.faults V.lacks files.old files.new result }
 {
     let Some(cat) = written_catalog(files) else {
