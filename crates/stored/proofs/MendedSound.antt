@@ -6,18 +6,19 @@ use Rattle.std.specs.Str.{bytes_eq}
 use Rattle.std.proofs.lemmas.List.FromFn.{get_or-map-range_with_len}
 use Rattle.afl_base.specs.Files.{Table}
 use Rattle.catalog.specs.CatalogFile.{IsCatalogSize}
-use Rattle.catalog.specs.Rules.{breaks_files, broken_catalog, broken_slot, catalog_bytes_in, catalog_in, differ, has_form, is_tree}
+use Rattle.catalog.specs.Rules.{breaks_files, broken_catalog, broken_slot, catalog_bytes_in, catalog_in, differ, first_broken, has_form, is_tree}
 use Rattle.db_model.specs.declared.schemas.Attribute.{Attribute}
 use Rattle.db_model.specs.declared.schemas.Domain.{Domain}
 use Rattle.db_model.specs.declared.schemas.Domain.TheVariants.{Int, Long, Time, Str}
 use Rattle.db_model.specs.declared.schemas.Schema.{Schema}
 use Rattle.db_model.specs.Between.{AreAlike}
 use Rattle.db_model.specs.Catalog.{catalog_of, index_at, relation_at, version_mark, version_of}
+use Rattle.db_model.specs.Database.{Database}
 use Rattle.db_model.specs.Sound.{IsSoundAttribute}
 use Rattle.padded.proofs.Facts.{both_parts, true_eq}
 use Rattle.space_model.specs.FileNames.{bytes_named, is_there, rows_file, tree_file}
 use Rattle.stored.specs.Base.{base_of, relation_stored}
-use Rattle.stored.specs.Mended.{has_time, is_time_domain, mended_base, mended_version, whole_catalog}
+use Rattle.stored.specs.Mended.{has_time, is_time_domain, mended_base, mended_catalog, mended_version, whole_catalog}
 use Rattle.stored.specs.Sound.{IsSoundTable}
 use Rattle.stored.proofs.FilesOf.{earliest_none, first_false, nothing_broken, tree_wanted, unbroken}
 use Rattle.stored.proofs.MendedBase.{alike_by, alike_is, cursors_mended, index_mended, index_stands, indexes_mended, relation_mended, relation_read, relations_mended, slots_same, version_mended, whole_sized}
@@ -116,10 +117,10 @@ wanted_there true used e t = refl
 wanted_there false true e t = cc
 wanted_there false false e t = cc
 
--- a sound table mends to its own database
-pub mended_of_sound : (files : Table) → IsSoundTable files → mended_base files ≡ base_of files
-mended_of_sound files s =
-    let parts = unbroken files s.catalog in
+-- a table whose catalog is sound mends to its own database
+pub mended_of_unbroken : (files : Table) → first_broken files ≡ None → mended_base files ≡ base_of files
+mended_of_unbroken files sound =
+    let parts = unbroken files sound in
     let bytes : List ℕ = catalog_bytes_in files in
     mended_is_base files (sized bytes parts.inner)
     (λ i below tree.
@@ -127,3 +128,23 @@ mended_of_sound files s =
     (tree_wanted files (catalog_in files).relations (catalog_in files).indexes i (first_false (breaks_files files (catalog_in files).relations (catalog_in files).indexes) 16 (8 + i) (omega (arith, below)) parts.files_there))
     (ap is_tree (get_or-map-range_with_len (index_at bytes) 0 8 i i None below (omega arith)) ∙ tree))
     (time_of_2 bytes (unbroken_slots bytes parts.inner))
+
+-- and so does a sound table
+pub mended_of_sound : (files : Table) → IsSoundTable files → mended_base files ≡ base_of files
+mended_of_sound files s = mended_of_unbroken files s.catalog
+
+-- the catalog that it mends to is its own
+pub record IsOwnCatalog (files : Table) : Type 0 where
+  pub version : (mended_catalog files).version ≡ (catalog_in files).version
+  pub relations : (mended_catalog files).relations ≡ (catalog_in files).relations
+  pub indexes : (mended_catalog files).indexes ≡ (catalog_in files).indexes
+
+pub own_catalog : (files : Table) → first_broken files ≡ None → IsOwnCatalog files
+unfolding mended_base mended_catalog
+own_catalog files sound =
+    let same = mended_of_unbroken files sound in
+    record {
+      version = ap (λ (db : Database). db.version) same;
+      relations = ap (λ (bytes : List ℕ). (catalog_of bytes).relations) (whole_sized (catalog_bytes_in files) (sized (catalog_bytes_in files) (unbroken files sound).inner));
+      indexes = ap (λ (db : Database). db.indexes) same;
+    }

@@ -10,6 +10,7 @@ ghost use Rattle.catalog.specs.Rules.{first_broken};
 ghost use Rattle.db_model.specs.Catalog.{relation_slot_bytes};
 ghost use Rattle.space_model.specs.FileNames.{catalog_file};
 ghost use Rattle.stored.specs.Mended.{has_time, mended_base};
+ghost use Rattle.stored_mend.specs.Complete.{LosesIndex};
 ghost use Rattle.stored_mend.specs.Listed.{HasWrittenCatalog, LacksTree};
 ghost use Rattle.stored_mend.specs.Mending.{HasInSlot, IsWholeCatalog, MendsAsBefore, WantsMark};
 ghost use Rattle.stored_mend.specs.Trees.{SparesButOne};
@@ -284,6 +285,8 @@ pub fn mend_index<V: Files>(files: &mut V, slot: u16, report: &mut Report) -> Re
     ensures others { OnOk result (SparesButOne (V.state files.old) (V.state files.new) catalog_file) }
     ensures sound { IsTrue (V.state files.old).tells → LacksTree (V.state files.old).files slot
         → OnOk result (first_broken (V.state files.new).files ≡ None) }
+    ensures loses { IsTrue (V.state files.old).tells → LacksTree (V.state files.old).files slot
+        → OnOk result (LosesIndex (V.state files.old).files (V.state files.new).files slot) }
     ensures frame { ChangesOrLacks V.state V.lent V.reads V.faults V.lacks files.old files.new result }
 {
     let Some(cat) = written_catalog(files) else {
