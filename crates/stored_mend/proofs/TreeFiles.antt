@@ -1,5 +1,5 @@
 -- Steps that change the file of a tree alone, or build it.
-use Rattle.std.proofs.Common.{◌≡◌, ◌≢◌, Bool, ℕ, ℤ, ◌+◌, ◌-◌, ◌<◌, ◌≤◌, List, [], ◌∷◌, ◌++◌, length, Option, Some, None, IsTrue, true, false, refl, ap, sym, subst, ◌∙◌, arith}
+use Rattle.std.proofs.Common.{◌≡◌, ◌≢◌, ◌⊎◌, inl, inr, Bool, ℕ, ℤ, ◌+◌, ◌-◌, ◌<◌, ◌≤◌, List, [], ◌∷◌, ◌++◌, length, Option, Some, None, IsTrue, true, false, refl, ap, sym, subst, ◌∙◌, arith}
 use Rattle.std.specs.Prelude.{Err, if◌then◌else◌, is_some, nat_lt, option_map, unwrap_or}
 use Rattle.std.proofs.Math.Logic.{⊎_elim}
 use Rattle.std.proofs.lemmas.Bool.{cases_eq}
@@ -8,32 +8,53 @@ use Rattle.afl_base.specs.Files.{Becomes, Commits, Drafts, File, IsLive, IsNamed
 use Rattle.afl_base.specs.KeyColumn.{key_of, key_place, number_of_width}
 use Rattle.afl_base.specs.Keys.{first_keys}
 use Rattle.afl_base.specs.declared.key_column.KeyColumn.{KeyColumn}
-use Rattle.afl_base.proofs.FileLaws.{named_here, named_live, names_stay, one_name, place_live}
+use Rattle.afl_base.proofs.FileLaws.{file_here, named_here, named_live, names_stay, one_name, place_live}
 use Rattle.afl_base.proofs.FrameLaws.{becomes_as, keeps_prepares}
 use Rattle.afl_base.specs.FileErrors.{OnSpace, UnlessFailed}
 use Rattle.afl_base.specs.declared.kind.FileError.{FileError}
 use Rattle.afl_base.specs.declared.kind.FileError.TheVariants.{Failed, Space}
 use Rattle.afl_base.specs.declared.kind.Kind.TheVariants.{Doubling}
-use Rattle.catalog.proofs.Named.{found_there, named_none}
+use Rattle.catalog.proofs.Named.{found_there, named_found, named_none}
 use Rattle.index_tree.specs.Trees.{IsTreeOf}
-use Rattle.space_model.specs.FileNames.{file_named, is_there, rows_file, tree_file}
+use Rattle.space_model.specs.FileNames.{bytes_in_file, bytes_named, file_named, is_there, rows_file, tree_file}
 use Rattle.space_model.proofs.NamedFiles.{named_place}
 use Rattle.stored.proofs.NamesStay.{there_stays}
 use Rattle.stored_mend.specs.Keys.{AreKeys}
-use Rattle.stored_mend.specs.Trees.{BecomesTree, BuildsTree, ChangesAtMost, HasTreeNow, SparesButOne}
+use Rattle.stored_mend.specs.Trees.{BecomesTree, BuildsTree, ChangesAtMost, HasTreeNow, IsDoublingOf, SparesButTree}
 use Rattle.stored_mend.proofs.OneFile.{becomes_changes, others_found, removed_changes, rows_no_tree}
 use Rattle.stored_mend.proofs.Replaced.{name_of}
 
 -- ---- all files but that of a name
 
-pub spares_same : (a : State) (name : List ℕ) → SparesButOne a a name
-spares_same a name = record { files = λ n differs. refl; draft = refl; tells = refl }
+-- a file that stands there was there before, or it is the one that changed, which doubles
+known_but : (old new : Table) (id : ℕ) (name : List ℕ) → OthersStay old new id → (file_at new id).name ≡ name → (file_at new id).kind ≡ Doubling
+    → (k : ℕ) (f : File) → place new k ≡ Some f → (place old k ≡ Some f) ⊎ IsDoublingOf name f
+known_but old new id name others is doubles k f there = ⊎_elim
+    (λ (same : k ≡ id).
+    let here : file_at new id ≡ f = file_here new id f (sym (ap (place new) same) ∙ there) in
+    inr (record { named = ap (λ (x : File). x.name) (sym here) ∙ is; doubles = ap (λ (x : File). x.kind) (sym here) ∙ doubles }))
+    (λ (other : k ≢ id). inl (sym (others k other) ∙ there))
+    (cases_eq k id)
 
-pub spares_then : (a b c : State) (name : List ℕ) → SparesButOne a b name → SparesButOne b c name → SparesButOne a c name
+bytes_of_place : (o : Option File) → bytes_in_file o ≡ (unwrap_or o no_file).bytes
+bytes_of_place None = refl
+bytes_of_place (Some f) = refl
+
+-- the bytes of the one file of a name
+pub named_bytes : (files : Table) (id : ℕ) (name : List ℕ) → IsNamed files id name → ((k : ℕ) → IsNamed files k name → k ≡ id) → bytes_named name files ≡ bytes_at files id
+named_bytes files id name named only = ap bytes_in_file (named_found files id name named only) ∙ bytes_of_place (place files id)
+
+pub spares_same : (a : State) (name : List ℕ) → SparesButTree a a name
+spares_same a name = record { spares = record { files = λ n differs. refl; draft = refl; tells = refl }; known = λ k f there. inl there }
+
+pub spares_then : (a b c : State) (name : List ℕ) → SparesButTree a b name → SparesButTree b c name → SparesButTree a c name
 spares_then a b c name f g = record {
-  files = λ n differs. g.files n differs ∙ f.files n differs;
-  draft = g.draft ∙ f.draft;
-  tells = g.tells ∙ f.tells;
+  spares = record {
+    files = λ n differs. g.spares.files n differs ∙ f.spares.files n differs;
+    draft = g.spares.draft ∙ f.spares.draft;
+    tells = g.spares.tells ∙ f.spares.tells;
+  };
+  known = λ k file there. ⊎_elim (λ before. f.known k file before) (λ own. inr own) (g.known k file there);
 }
 
 pub changes_same : (a : State) (name : List ℕ) → ChangesAtMost a a name
@@ -45,28 +66,40 @@ changes_then a b c name f g = record { spares = spares_then a b c name f.spares 
 pub keeps_changes : (a b : State) (name : List ℕ) → Keeps a b → ChangesAtMost a b name
 keeps_changes a b name k = record {
   spares = record {
-    files = λ n differs. ap (file_named n) k.files;
-    draft = k.draft;
-    tells = k.tells;
+    spares = record {
+      files = λ n differs. ap (file_named n) k.files;
+      draft = k.draft;
+      tells = k.tells;
+    };
+    known = λ j f there. inl (sym (ap (λ (t : Table). place t j) k.files) ∙ there);
   };
   there = ap (is_there name) k.files;
 }
 
-pub becomes_at_most : (a b : State) (file total : ℕ) (bytes name : List ℕ) → IsNamed a.files file name → Becomes a b file total bytes → ChangesAtMost a b name
-becomes_at_most a b file total bytes name named c = record {
+pub becomes_at_most : (a b : State) (file total : ℕ) (bytes name : List ℕ) → IsNamed a.files file name → (file_at a.files file).kind ≡ Doubling → Becomes a b file total bytes → ChangesAtMost a b name
+becomes_at_most a b file total bytes name named doubles c = record {
   spares = record {
-    files = λ n differs. others_found a.files b.files name n (becomes_changes a b file total bytes name c named) differs;
-    draft = c.draft;
-    tells = c.tells;
+    spares = record {
+      files = λ n differs. others_found a.files b.files name n (becomes_changes a b file total bytes name c named) differs;
+      draft = c.draft;
+      tells = c.tells;
+    };
+    known = known_but a.files b.files file name c.others (c.name ∙ name_of a.files file name named) (c.kind ∙ doubles);
   };
   there = there_stays a.files b.files name (names_stay a b file total bytes (named_live a.files file name named) c);
 }
 
-pub removed_spares : (a b : State) (file : ℕ) (name : List ℕ) → IsNamed a.files file name → Removes a b file → SparesButOne a b name
+pub removed_spares : (a b : State) (file : ℕ) (name : List ℕ) → IsNamed a.files file name → Removes a b file → SparesButTree a b name
 removed_spares a b file name named r = record {
-  files = λ n differs. others_found a.files b.files name n (removed_changes a b file name r named) differs;
-  draft = r.draft;
-  tells = r.tells;
+  spares = record {
+    files = λ n differs. others_found a.files b.files name n (removed_changes a b file name r named) differs;
+    draft = r.draft;
+    tells = r.tells;
+  };
+  known = λ k f there. ⊎_elim
+      (λ (same : k ≡ file). let no : None ≡ Some f = sym (ap (place b.files) same ∙ r.gone) ∙ there in absurd (cc))
+      (λ (other : k ≢ file). inl (sym (r.others k other) ∙ there))
+      (cases_eq k file);
 }
 
 pub removed_unnamed : (a b : State) (file : ℕ) (name : List ℕ) → IsNamed a.files file name → Removes a b file → IsUnnamed b.files name
@@ -85,22 +118,27 @@ built_at_most a b file name keys named only t = record {
 }
 
 -- behind a step that leaves its keys as they are, and all other files
-pub built_behind : (a b c : State) (name : List ℕ) (before keys : List ℤ) → SparesButOne a b name → (IsTrue a.tells → before ≡ keys) → BuildsTree b c name before → BuildsTree a c name keys
+pub built_behind : (a b c : State) (name : List ℕ) (before keys : List ℤ) → SparesButTree a b name → (IsTrue a.tells → before ≡ keys) → BuildsTree b c name before → BuildsTree a c name keys
 built_behind a b c name before keys s same t = record {
   id = t.id;
   named = t.named;
   only = t.only;
-  tree = λ told. subst (IsTreeOf (bytes_at c.files t.id)) (same told) (t.tree (s.tells ∙ told));
+  tree = λ told. subst (IsTreeOf (bytes_at c.files t.id)) (same told) (t.tree (s.spares.tells ∙ told));
   spares = spares_then a b c name s t.spares;
 }
 
-pub built_now : (a b : State) (name : List ℕ) (keys : List ℤ) → IsTrue a.tells → ((k : ℕ) → IsNamed a.files k name → IsNamed b.files k name) → BuildsTree a b name keys → HasTreeNow a.files b.files name keys
-built_now a b name keys told stays t = λ k named doubles. subst (λ (i : ℕ). IsTreeOf (bytes_at b.files i) keys) (sym (t.only k (stays k named))) (t.tree told)
+pub built_now : (a b : State) (name : List ℕ) (keys : List ℤ) → IsTrue a.tells → BuildsTree a b name keys → HasTreeNow a.files b.files name keys
+built_now a b name keys told t = λ k named doubles. subst (λ (bytes : List ℕ). IsTreeOf bytes keys) (sym (named_bytes b.files t.id name t.named t.only)) (t.tree told)
 
-pub becomes_now : (a b : State) (file : ℕ) (name : List ℕ) (keys : List ℤ) → ((k : ℕ) → IsNamed a.files k name → k ≡ file) → IsTrue a.tells → BecomesTree a b file keys → HasTreeNow a.files b.files name keys
-becomes_now a b file name keys only told t = λ k named doubles.
-    subst (λ (i : ℕ). IsTreeOf (bytes_at b.files i) keys) (sym (only k named))
-    (subst (λ (bytes : List ℕ). IsTreeOf bytes keys) (sym (t.becomes.bytes told)) (t.tree told))
+pub becomes_now : (a b : State) (file : ℕ) (name : List ℕ) (keys : List ℤ) → IsNamed a.files file name → ((k : ℕ) → IsNamed a.files k name → k ≡ file) → IsTrue a.tells → BecomesTree a b file keys
+    → HasTreeNow a.files b.files name keys
+becomes_now a b file name keys named only told t = λ k is doubles.
+    let names = names_stay a b file (length t.bytes) t.bytes (named_live a.files file name named) t.becomes in
+    subst (λ (bytes : List ℕ). IsTreeOf bytes keys) (sym (named_bytes b.files file name (names file ∙ named) (λ j h. only j (sym (names j) ∙ h)) ∙ t.becomes.bytes told)) (t.tree told)
+
+-- a tree that is whole already
+pub stands_now : (files : Table) (file : ℕ) (name : List ℕ) (keys : List ℤ) → IsNamed files file name → ((k : ℕ) → IsNamed files k name → k ≡ file) → IsTreeOf (bytes_at files file) keys → HasTreeNow files files name keys
+stands_now files file name keys named only tree = λ k is doubles. subst (λ (bytes : List ℕ). IsTreeOf bytes keys) (sym (named_bytes files file name named only)) tree
 
 -- the place that a name keeps, or a free one, has no other name
 takes_its_own : (files : Table) (name : List ℕ) (id : ℕ) (x : List ℕ) → ((i j : ℕ) → IsNamed files i name → IsNamed files j name → i ≡ j) → ((k : ℕ) → IsNamed files k name → id ≡ k)
@@ -143,25 +181,19 @@ module _ (a b c d : State) (id n m : ℕ) (name first bytes : List ℕ) (keys : 
         only = only;
         tree = λ told. subst (λ (xs : List ℕ). IsTreeOf xs keys) (sym (commits.bytes (tells ∙ told))) (tree told);
         spares = record {
-          files = λ x differs. others_found a.files d.files name x (record {
-            id = id;
-            others = others;
-            before = before;
-            after = λ y is. one_name d.files id y name is named;
-          }) differs;
-          draft = commits.draft ∙ sym idle;
-          tells = commits.tells ∙ tells;
+          spares = record {
+            files = λ x differs. others_found a.files d.files name x (record {
+              id = id;
+              others = others;
+              before = before;
+              after = λ y is. one_name d.files id y name is named;
+            }) differs;
+            draft = commits.draft ∙ sym idle;
+            tells = commits.tells ∙ tells;
+          };
+          known = known_but a.files d.files id name others (commits.name ∙ given) commits.kind;
         };
       }
-
-  -- and a file of the name keeps its place
-  pub drafted_stays : Drafts a b name n first → Drafts b c (draft_in b).name m bytes → Commits c d id → (k : ℕ) → IsNamed a.files k name → IsNamed d.files k name
-  drafted_stays begun written commits k is =
-      let files : c.files ≡ a.files = written.files ∙ begun.files in
-      let given : (draft_in c).name ≡ name = written.name ∙ begun.name in
-      let same : id ≡ k = commits.kept k (subst (λ (t : Table). IsNamed t k (draft_in c).name) (sym files) (subst (IsNamed a.files k) (sym given) is)) in
-      let named : IsNamed d.files id name = named_here d.files id (file_at d.files id) (place_live d.files id commits.live) ∙ ap (λ (x : List ℕ). Some x) (commits.name ∙ given) in
-      subst (λ (j : ℕ). IsNamed d.files j name) same named
 
 -- ---- what a build asks for, behind a step on the file of the name
 

@@ -20,17 +20,17 @@ use Rattle.stored_mend.proofs.OneFile.{catalog_no_tree, rows_no_tree, same_tree_
 
 pub kept_by : (a b : State) (i : ℕ) → ChangesAtMost a b (tree_file i) → KeepsBase a b
 kept_by a b i c =
-    let catalog : catalog_bytes_in b.files ≡ catalog_bytes_in a.files = ap bytes_in_file (c.spares.files catalog_file (catalog_no_tree i)) in
+    let catalog : catalog_bytes_in b.files ≡ catalog_bytes_in a.files = ap bytes_in_file (c.spares.spares.files catalog_file (catalog_no_tree i)) in
     let there : (j : ℕ) → is_there (tree_file j) b.files ≡ is_there (tree_file j) a.files = λ j. ⊎_elim
     (λ e. subst (λ (k : ℕ). is_there (tree_file k) b.files ≡ is_there (tree_file k) a.files) (sym e) c.there)
-    (λ other. ap is_some (c.spares.files (tree_file j) (λ e. other (same_tree_slot j i e))))
+    (λ other. ap is_some (c.spares.spares.files (tree_file j) (λ e. other (same_tree_slot j i e))))
     (cases_eq j i) in
     record {
       catalog = catalog;
       base = λ told. mended_by a.files b.files catalog
-          (λ k. relation_by a.files b.files (mended_catalog a.files).relations k (ap bytes_in_file (c.spares.files (rows_file k) (rows_no_tree k i)))) there;
-      draft = c.spares.draft;
-      tells = c.spares.tells;
+          (λ k. relation_by a.files b.files (mended_catalog a.files).relations k (ap bytes_in_file (c.spares.spares.files (rows_file k) (rows_no_tree k i)))) there;
+      draft = c.spares.spares.draft;
+      tells = c.spares.spares.tells;
     }
 
 pub kept_same : (a : State) → KeepsBase a a

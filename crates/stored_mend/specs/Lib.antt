@@ -1,3 +1,4 @@
+pub mod Complete
 pub mod Filled
 pub mod Keys
 pub mod Listed

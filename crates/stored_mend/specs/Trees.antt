@@ -1,15 +1,20 @@
 -- Trees of indexes that are put right, and what is lost where there is no room for one.
-use Rattle.std.specs.Prelude.{◌≡◌, ◌≢◌, ◌⊎◌, ⊤, ℕ, ℤ, ◌<◌, List, length, get_or, Option, None, IsTrue, true}
+use Rattle.std.specs.Prelude.{◌≡◌, ◌≢◌, ◌⊎◌, ⊤, ℕ, ℤ, ◌<◌, List, length, get_or, Option, Some, None, IsTrue, true}
 use Rattle.afl_base.specs.declared.kind.Kind.TheVariants.{Doubling}
-use Rattle.afl_base.specs.Files.{Becomes, IsNamed, IsUnnamed, State, Table, bytes_at, file_at}
+use Rattle.afl_base.specs.Files.{Becomes, File, IsNamed, IsUnnamed, State, Table, bytes_at, file_at, place}
 use Rattle.catalog.specs.Rules.{is_tree}
 use Rattle.db_model.specs.Catalog.{Index}
 use Rattle.db_model.specs.Database.{Database}
 use Rattle.index_tree.specs.Trees.{IsTreeOf}
-use Rattle.space_model.specs.FileNames.{file_named, is_there, tree_file}
+use Rattle.space_model.specs.FileNames.{bytes_named, file_named, is_there, tree_file}
 use Rattle.stored.specs.Mended.{mended_base}
 
 -- ---- files
+
+-- a file of the name, which doubles
+pub record IsDoublingOf (name : List ℕ) (f : File) : Type 0 where
+  pub named : f.name ≡ name
+  pub doubles : f.kind ≡ Doubling
 
 -- no file has changed, come or gone but that of a name
 pub record SparesButOne (old new : State) (name : List ℕ) : Type 0 where
@@ -17,9 +22,14 @@ pub record SparesButOne (old new : State) (name : List ℕ) : Type 0 where
   pub draft : new.draft ≡ old.draft
   pub tells : new.tells ≡ old.tells
 
--- and that of the name is there where it was there
-pub record ChangesAtMost (old new : State) (name : List ℕ) : Type 0 where
+-- and that of the name doubles, where it is there
+pub record SparesButTree (old new : State) (name : List ℕ) : Type 0 where
   pub spares : SparesButOne old new name
+  pub known : (k : ℕ) (f : File) → place new.files k ≡ Some f → (place old.files k ≡ Some f) ⊎ IsDoublingOf name f
+
+-- and it is there where it was there
+pub record ChangesAtMost (old new : State) (name : List ℕ) : Type 0 where
+  pub spares : SparesButTree old new name
   pub there : is_there name new.files ≡ is_there name old.files
 
 -- a file has become the tree of some keys, where bytes are told, and all others are as before
@@ -34,11 +44,11 @@ pub record BuildsTree (old new : State) (name : List ℕ) (keys : List ℤ) : Ty
   pub named : IsNamed new.files id name
   pub only : (k : ℕ) → IsNamed new.files k name → k ≡ id
   pub tree : IsTrue old.tells → IsTreeOf (bytes_at new.files id) keys
-  pub spares : SparesButOne old new name
+  pub spares : SparesButTree old new name
 
--- the file of a name, where it doubles, is the tree of some keys
+-- the file of a name, where it was there and doubled, is the tree of some keys. There are 32 places
 abbrev pub HasTreeNow : (old new : Table) → List ℕ → List ℤ → Type 0
-HasTreeNow old new name keys = (k : ℕ) → IsNamed old k name → (file_at old k).kind ≡ Doubling → IsTreeOf (bytes_at new k) keys
+HasTreeNow old new name keys = (k : ℕ) → IsNamed old k name → (k < 32 → (file_at old k).kind ≡ Doubling) → IsTreeOf (bytes_named name new) keys
 
 -- ---- databases
 

@@ -12,6 +12,7 @@ ghost use Rattle.space_model.specs.FileNames.{catalog_file};
 ghost use Rattle.stored.specs.CutTables.{IsCutTable, IsHalfDone};
 ghost use Rattle.stored.specs.Mended.{has_time, is_time_domain, mended_base};
 ghost use Rattle.stored.specs.declared.half.Half.{Half};
+ghost use Rattle.stored_mend.specs.Complete.{LosesIndex};
 ghost use Rattle.stored_mend.specs.Listed.{HasWrittenCatalog, IsListedTo, IsMarkedHalf, IsMarkedSlot, IsTakenBack, KeepsKnown, LacksTree, indexes_below, relations_below};
 ghost use Rattle.stored_mend.specs.Mending.{HasInSlot, IsWholeCatalog, MendsAsBefore, WantsMark};
 ghost use Rattle.stored_mend.specs.Trees.{SparesButOne};
@@ -319,6 +320,8 @@ pub fn mend_index<V: Files>(files: &mut V, slot: u16, report: &mut Report) -> Re
     ensures listed { IsTrue (V.state files.old).tells
         → IsListedTo (indexes_below slot) (V.state files.old).files
         → OnOk result (IsListedTo (indexes_below (slot + 1)) (V.state files.new).files) }
+    ensures loses { IsTrue (V.state files.old).tells → LacksTree (V.state files.old).files slot
+        → OnOk result (LosesIndex (V.state files.old).files (V.state files.new).files slot) }
     ensures frame { ChangesOrLacks V.state V.lent V.reads V.faults V.lacks files.old files.new result }
 {
     let Some(cat) = written_catalog(files) else {

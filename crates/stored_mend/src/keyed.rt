@@ -3,10 +3,12 @@
 #![tactic(auto)]
 
 ghost use Rattle.std.specs.Prelude.{◌≡◌, ℕ, Some, IfNone, IfSome, false, length, slice_get, true};
+ghost use Rattle.std.specs.Bool.{Decides};
 ghost use Rattle.afl_base.specs.Files.{IsLive, IsNamed};
 ghost use Rattle.afl_base.specs.KeyColumn.{IsWidth};
 ghost use Rattle.db_model.specs.declared.schemas.Attribute.{Attribute as AnyAttribute};
 ghost use Rattle.db_model.specs.declared.schemas.IndexKind.{IndexKind as AnyKind};
+ghost use Rattle.db_model.specs.declared.schemas.IndexKind.TheVariants.{MaxHeap as OfHeap};
 ghost use Rattle.db_model.specs.declared.schemas.Schema.{Schema as AnySchema};
 ghost use Rattle.db_model.specs.Row.{width};
 ghost use Rattle.db_model.specs.Step.{allows};
@@ -15,7 +17,7 @@ ghost use Rattle.stored_mend.specs.Keys.{AreKeys, HasTooMany, IsKeysOf, IsNumber
 
 use afl_base::{FileId, Files, KeyColumn};
 use catalog::{Catalog, IndexEntry, rows_file};
-use db_model::{Domain, Schema, fields_length, row_length};
+use db_model::{Domain, IndexKind, Schema, fields_length, row_length};
 
 /// Where the keys of an index stand, and how many they are.
 #[derive(Drop)]
@@ -24,12 +26,17 @@ pub struct Keyed {
     pub slots: u16,
 }
 
+/// Whether an index of the kind has a tree.
+pub fn is_heap(kind: IndexKind) -> bool
+    ensures { Decides result (kind ≡ OfHeap) }
+{
+    kind == IndexKind::MaxHeap
+}
+
 /// The keys of an index, None where its relation has none.
 pub fn keys_of<V: Files>(files: &V, catalog: &Catalog, entry: &IndexEntry) -> Option<Keyed>
     requires relations { length catalog.now.relations ≡ 8 }
     ensures keys { IfSome result (λ keys. AreKeys (V.state files.now) keys.column keys.slots) }
-    ensures rows { IfSome result (λ keys.
-        IsNamed (V.state files.now).files keys.column.file (rows_file entry.now.relation)) }
     ensures read { let table = (V.state files.now).files in IfSome result
         (λ keys. IsKeysOf table catalog.now.relations entry.now keys.column keys.slots) }
     ensures none { let table = (V.state files.now).files in IfNone result ((schema : AnySchema) (file : ℕ)

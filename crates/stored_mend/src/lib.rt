@@ -21,7 +21,7 @@ mod trees;
 
 pub use decoding::mended_relation;
 pub use filling::may_fill;
-pub use keyed::{Keyed, keys_of};
+pub use keyed::{Keyed, is_heap, keys_of};
 pub use lines::write_report;
 pub use listing::{SIZE_OF_VERSION_1, VERSION_MARK, whole_catalog};
 pub use mending::mend_database;

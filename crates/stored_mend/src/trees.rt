@@ -2,26 +2,31 @@
 
 #![tactic(auto)]
 
-ghost use Rattle.std.specs.Prelude.{◌≡◌, ◌≢◌, ◌≤◌, ◌<◌, ◌++◌, ◌∷◌, [], ℕ, ℤ, List, IfOk, IfSome, IsTrue, None, OnOk, length, true, false};
+ghost use Rattle.std.specs.Prelude.{◌≡◌, ◌≢◌, ◌≤◌, ◌<◌, ◌++◌, ◌∷◌, [], ℕ, ℤ, List, IfNone, IfOk, IfSome, IsTrue, None, OnOk, length, true, false};
 ghost use Rattle.afl_base.specs.FileErrors.{OnSpace, UnlessFailed};
 ghost use Rattle.afl_base.specs.Files.{Becomes, IsLive, IsNamed, IsUnnamed, Keeps, KeepsBytes, Removes, bytes_at, file_at, used};
 ghost use Rattle.afl_base.specs.Keeping.{Changes, ChangesOrLacks};
 ghost use Rattle.afl_base.specs.declared.kind.Kind.TheVariants.{Doubling};
 ghost use Rattle.afl_base.specs.KeyColumn.{key_of};
 ghost use Rattle.afl_base.specs.Keys.{first_keys};
+ghost use Rattle.catalog.specs.Catalogs.{catalog_slots};
+ghost use Rattle.catalog.specs.Rules.{catalog_in};
 ghost use Rattle.index_maxheap.specs.Rooms.{OnlyIndexChanges};
 ghost use Rattle.index_tree.specs.Trees.{IsTreeOf};
 ghost use Rattle.space_model.specs.FileNames.{rows_file, tree_file};
+ghost use Rattle.stored.specs.Sound.{IsSoundTable};
+ghost use Rattle.stored.specs.declared.half.Half.{Half as AnyHalf};
+ghost use Rattle.stored_mend.specs.Complete.{AreKeysIn, CompletesFirst, CompletesSlot, HasSlot, IsComplete, IsSoundButTrees, LosesTree, SettlesSlot};
 ghost use Rattle.stored_mend.specs.Keys.{AreKeys};
 ghost use Rattle.stored_mend.specs.Mending.{KeepsBase};
-ghost use Rattle.stored_mend.specs.Trees.{BecomesTree, BuildsTree, ChangesAtMost, HasTreeNow, KeepsButTrees, LacksRoom, SparesButOne};
+ghost use Rattle.stored_mend.specs.Stages.{HasWholeRows};
+ghost use Rattle.stored_mend.specs.Trees.{BecomesTree, BuildsTree, ChangesAtMost, HasTreeNow, KeepsButTrees, LacksRoom, SparesButTree};
 
 use crate::catalogs::mend_index;
-use crate::keyed::{Keyed, keys_of};
+use crate::keyed::{Keyed, is_heap, keys_of};
 use crate::report::{Mended, Report};
 use afl_base::{Failed, FileError, FileId, Files, IndexId, Kind, Name, SlotNo};
 use catalog::{Catalog, IndexEntry, tree_file};
-use db_model::IndexKind;
 use index_maxheap::{BUCKET_SIZE, HEAD_SIZE, buckets_for, build, insert, room, verify};
 use index_tree::a_tree_ends_in_a_mark;
 
@@ -38,6 +43,9 @@ pub fn mend_all_trees<V: Files>(
     requires idle { (V.state files.old).draft ≡ None }
     ensures kept { OnOk result
         (KeepsButTrees (LacksRoom V.state V.lacks) (V.state files.old) (V.state files.new)) }
+    ensures sound { IsTrue (V.state files.old).tells → catalog_slots catalog.now ≡ catalog_in (V.state files.old).files
+        → (half : AnyHalf) → HasWholeRows (V.state files.old).files half
+        → OnOk result (IsSoundTable (V.state files.new).files) }
     ensures frame { ChangesOrLacks V.state V.lent V.reads V.faults V.lacks files.old files.new result }
 {
     let waiting = mend_trees(files, catalog, report)?;
@@ -60,6 +68,10 @@ fn mend_trees<V: Files>(
     requires indexes { length catalog.now.indexes ≡ 8 }
     requires idle { (V.state files.old).draft ≡ None }
     ensures kept { OnOk result (KeepsBase (V.state files.old) (V.state files.new)) }
+    ensures begun { OnOk result
+        (CompletesFirst (V.state files.old) (V.state files.new) catalog.now 0) }
+    ensures complete { IfOk result (λ waiting. waiting ≡ 0
+        → CompletesFirst (V.state files.old) (V.state files.new) catalog.now 8) }
     ensures frame { Changes V.state V.lent V.reads V.faults files.old files.new result }
 {
     let mut waiting = 0;
@@ -72,6 +84,7 @@ fn mend_trees<V: Files>(
 
 // 1 where there is something.
 fn count(need: Option<u16>) -> u16
+    ensures none { result ≡ 0 → need ≡ None }
     ensures few { result ≤ 1 }
 {
     match need {
@@ -96,6 +109,8 @@ fn make_room<V: Files>(
     requires slot { slot < 8 }
     ensures kept { OnOk result
         (KeepsButTrees (LacksRoom V.state V.lacks) (V.state files.old) (V.state files.new)) }
+    ensures settles { OnOk result
+        (SettlesSlot (V.state files.old) (V.state files.new) catalog.now slot) }
     ensures frame { ChangesOrLacks V.state V.lent V.reads V.faults V.lacks files.old files.new result }
 {
     let waits = mend_tree(files, slot, catalog, report)?;
@@ -112,7 +127,8 @@ fn make_room<V: Files>(
 }
 
 // Puts the tree of the index in a slot right, where there is room. Else it answers how many pages are
-// lacking, and what the files mend to is as before.
+// lacking. No other file changes.
+#[tactic(auto, using(crate::proofs::TreeFiles::changes_same))]
 fn mend_tree<V: Files>(
     files: &mut V,
     slot: u16,
@@ -122,7 +138,12 @@ fn mend_tree<V: Files>(
     requires relations { length catalog.now.relations ≡ 8 }
     requires indexes { length catalog.now.indexes ≡ 8 }
     requires idle { (V.state files.old).draft ≡ None }
+    requires slot { slot < 8 }
     ensures kept { OnOk result (KeepsBase (V.state files.old) (V.state files.new)) }
+    ensures changes { OnOk result
+        (ChangesAtMost (V.state files.old) (V.state files.new) (tree_file slot)) }
+    ensures complete { IfOk result (λ waits. IfNone waits
+        (CompletesSlot (V.state files.old) (V.state files.new) catalog.now slot)) }
     ensures lacks { IfOk result (λ waits. IfSome waits (λ need. V.lacks files.new need)) }
     ensures frame { Changes V.state V.lent V.reads V.faults files.old files.new result }
 {
@@ -151,14 +172,21 @@ fn keys_of_tree<V: Files>(files: &V, catalog: &Catalog, id: IndexId) -> Option<K
     ensures narrow { IfSome result (λ keys. keys.column.width ≢ 8) }
     ensures rows { IfSome result (λ keys. (slot : ℕ)
         × IsNamed (V.state files.now).files keys.column.file (rows_file slot)) }
+    ensures read { HasSlot (V.state files.now).files catalog.now id → IsSoundButTrees (V.state files.now).files
+        → IfSome result (λ keys. AreKeysIn (V.state files.now).files id
+        (first_keys (key_of (V.state files.now) keys.column) keys.slots)) }
+    ensures none { HasSlot (V.state files.now).files catalog.now id → IsSoundButTrees (V.state files.now).files
+        → IfNone result (IsComplete (V.state files.now).files id) }
 {
     let Some(entry) = catalog.indexes[id.number() as usize] else {
         return None;
     };
-    if entry.kind != IndexKind::MaxHeap {
+    if !is_heap(entry.kind) {
         return None;
     }
-    let keys = keys_of(files, catalog, &entry)?;
+    let Some(keys) = keys_of(files, catalog, &entry) else {
+        return None;
+    };
     if keys.column.width == 8 {
         return None;
     }
@@ -205,6 +233,7 @@ fn mend_tree_of<V: Files>(files: &mut V, name: Name, keys: &Keyed) -> Result<boo
     let Some(tree) = files.find(name) else {
         return Ok(false);
     };
+    files.live(tree);
     if files.kind(tree) != Kind::Doubling {
         return Ok(false);
     }
@@ -291,8 +320,6 @@ fn build_tree<V: Files>(files: &mut V, name: Name, keys: &Keyed) -> Result<(), F
     requires place { IsUnnamed (V.state files.old).files name → used (V.state files.old).files < 32 }
     ensures built { OnOk result (BuildsTree (V.state files.old) (V.state files.new) name
         (first_keys (key_of (V.state files.old) keys.now.column) keys.now.slots)) }
-    ensures stays { OnOk result ((k : ℕ) → IsNamed (V.state files.old).files k name
-        → IsNamed (V.state files.new).files k name) }
     ensures kept { OnSpace result (λ _. Keeps (V.state files.old) (V.state files.new)) }
     ensures frame { ChangesOrLacks V.state V.lent V.reads V.faults V.lacks files.old files.new result }
 {
@@ -319,14 +346,18 @@ fn replace_tree<V: Files>(
     requires slot { slot < 8 }
     ensures kept { OnOk result
         (KeepsButTrees (LacksRoom V.state V.lacks) (V.state files.old) (V.state files.new)) }
+    ensures settles { OnOk result
+        (SettlesSlot (V.state files.old) (V.state files.new) catalog.now slot) }
     ensures frame { ChangesOrLacks V.state V.lent V.reads V.faults V.lacks files.old files.new result }
 {
-    let stands = has_tree_again(files, slot, catalog, report)?;
-    if stands {
-        return Ok(());
+    match has_tree_again(files, slot, catalog, report) {
+        Ok(true) => Ok(()),
+        Ok(false) => {
+            mend_index(files, slot, report)?;
+            Ok(())
+        }
+        Err(Failed) => Err(FileError::Failed),
     }
-    mend_index(files, slot, report)?;
-    Ok(())
 }
 
 // Removes the tree of the index in a slot and builds it in what became free. It answers false where
@@ -343,6 +374,10 @@ fn has_tree_again<V: Files>(
     requires slot { slot < 8 }
     ensures kept { OnOk result
         (KeepsButTrees (LacksRoom V.state V.lacks) (V.state files.old) (V.state files.new)) }
+    ensures settles { IfOk result (λ stands. stands ≡ true
+        → SettlesSlot (V.state files.old) (V.state files.new) catalog.now slot) }
+    ensures gone { IfOk result (λ stands. stands ≡ false
+        → LosesTree (V.state files.old) (V.state files.new) catalog.now slot) }
     ensures frame { Changes V.state V.lent V.reads V.faults files.old files.new result }
 {
     let Some(id) = IndexId::new(slot) else {
@@ -382,7 +417,7 @@ fn replace_tree_of<V: Files>(
         (first_keys (key_of (V.state files.old) keys.now.column) keys.now.slots)) }
     ensures gone { OnSpace result (λ _. IsUnnamed (V.state files.new).files name) }
     ensures spares { OnSpace result (λ _.
-        SparesButOne (V.state files.old) (V.state files.new) name) }
+        SparesButTree (V.state files.old) (V.state files.new) name) }
     ensures frame { ChangesOrLacks V.state V.lent V.reads V.faults V.lacks files.old files.new result }
 {
     remove_tree(files, tree, name)?;
@@ -397,7 +432,7 @@ fn remove_tree<V: Files>(files: &mut V, tree: FileId, name: Name) -> Result<(), 
     requires idle { (V.state files.old).draft ≡ None }
     requires named { IsNamed (V.state files.old).files tree name }
     ensures removed { OnOk result (Removes (V.state files.old) (V.state files.new) tree) }
-    ensures spares { OnOk result (SparesButOne (V.state files.old) (V.state files.new) name) }
+    ensures spares { OnOk result (SparesButTree (V.state files.old) (V.state files.new) name) }
     ensures gone { OnOk result (IsUnnamed (V.state files.new).files name) }
     ensures place { OnOk result (used (V.state files.new).files < 32) }
     ensures frame { Changes V.state V.lent V.reads V.faults files.old files.new result }

@@ -35,7 +35,8 @@ use Rattle.stored_survey.specs.Asked.{AreSoundBeside, IsReadAs}
 use Rattle.stored_survey.specs.Pieces.{IsReadIndex, IsWritten}
 use Rattle.stored_survey.specs.Shown.{keys_mended}
 use Rattle.stored_survey.proofs.HalfParts.{found_bytes, only_bytes, there_found}
-use Rattle.stored_survey.proofs.KeysRead.{keys_count, keys_of_rows, narrow_keys, narrow_width, ordered_keys}
+use Rattle.stored_mend.proofs.ColumnKeys.{keys_count, narrow_keys, narrow_width}
+use Rattle.stored_survey.proofs.KeysRead.{keys_of_rows, ordered_keys}
 use Rattle.stored_survey.proofs.RowsHeld.{held_each}
 use Rattle.stored_survey.proofs.Slots.{StandsOn, stands}
 

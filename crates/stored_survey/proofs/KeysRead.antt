@@ -28,6 +28,7 @@ use Rattle.stored.specs.CutTables.{relation}
 use Rattle.stored.specs.Mended.{mended_base, whole_catalog}
 use Rattle.stored.proofs.MendedBase.{relation_mended, relation_mended_at, relation_read}
 use Rattle.stored_mend.specs.Keys.{IsNumbersOf}
+use Rattle.stored_mend.proofs.ColumnKeys.{all_numbers}
 use Rattle.tuple_file.specs.Column.{is_number}
 use Rattle.tuple_file.proofs.Columns.{key_in_slot}
 use Rattle.tuple_file.proofs.Slots.{slot_field}
@@ -47,19 +48,7 @@ pub keys_of_rows : (files : Table) (index : Index) (schema : Schema) → relatio
     → keys_mended files index ≡ keys index.attribute (rows_of schema.attributes (bytes_named (rows_file index.relation) files))
 keys_of_rows files index schema is = ap (keys index.attribute) (rows_mended files index.relation schema is)
 
-pub keys_count : (place : ℕ) (attributes : List Attribute) (bytes : List ℕ) → length (keys place (rows_of attributes bytes)) ≡ slots_in_bytes attributes bytes
-keys_count place attributes bytes =
-    length-map (rows_of attributes bytes) (λ (row : Row). key_of (slice_get row.tuple place)) ∙ length-map-range_with_len (row_at attributes bytes) 0 (slots_in_bytes attributes bytes)
-
--- ---- numbers
-
--- an INT or a LONG is read of any bytes
-narrow_number : (d : Domain) (bytes xs : List ℕ) (at : ℕ) → allows MaxHeap d ≡ true → take (width d) xs ≡ take (width d) (drop at bytes) → number_of_width bytes at (width d) ≡ key_of (Some (field_of d xs))
-unfolding number_of_width i32_at
-narrow_number Int bytes xs at allowed same = ap (λ (n : ℕ). cast_signed w16 n) (number_front 2 (drop at bytes) xs (sym same))
-narrow_number Long bytes xs at allowed same = ap (λ (n : ℕ). cast_signed w32 n) (number_front 4 (drop at bytes) xs (sym same))
-narrow_number Time bytes xs at allowed same = cc
-narrow_number (Str n) bytes xs at allowed same = cc
+-- ---- numbers of rows that are written as they are read
 
 number_allowed : (d : Domain) → allows Inline d ≡ true → is_number d ≡ true
 number_allowed Int allowed = refl
@@ -67,51 +56,8 @@ number_allowed Long allowed = refl
 number_allowed Time allowed = refl
 number_allowed (Str n) allowed = cc
 
-pub narrow_width : (d : Domain) → allows MaxHeap d ≡ true → width d ≢ 8
-narrow_width Int allowed e = let n : 2 ≡ 8 = e in omega (arith, n)
-narrow_width Long allowed e = let n : 4 ≡ 8 = e in omega (arith, n)
-narrow_width Time allowed e = cc
-narrow_width (Str n) allowed e = cc
-
--- ---- the numbers of a column
-
-both_maps : {X Y Z : Type 0} (f : Y → Z) (g : X → Y) (xs : List X) → map f (map g xs) ≡ map (λ (x : X). f (g x)) xs
-both_maps f g [] = refl
-both_maps f g (x ∷ xs) = ap (λ (ys : List _). f (g x) ∷ ys) (both_maps f g xs)
-
 module _ (state : State) (attributes : List Attribute) (place : ℕ) (column : KeyColumn) (slots : ℕ) (n : IsNumbersOf state.files attributes place column slots) where
-  abbrev bytes : List ℕ
-  bytes = bytes_at state.files column.file
-
-  abbrev at : ℕ
-  at = fields_length (take place attributes)
-
-  column_number : (slot : ℕ) → key_of_column state column slot ≡ number_of_width bytes (row_length attributes * slot + at) (width n.attribute.domain)
-  column_number slot =
-      ap (λ (w : ℕ). number_of_width bytes (column.row * slot + column.at) w) n.width_is
-      ∙ ap (λ (x : ℕ). number_of_width bytes (column.row * slot + x) (width n.attribute.domain)) n.at_is
-      ∙ ap (λ (x : ℕ). number_of_width bytes (x * slot + at) (width n.attribute.domain)) n.row_is
-
-  all_numbers : ((slot : ℕ) → slot < slots → number_of_width bytes (row_length attributes * slot + at) (width n.attribute.domain) ≡ key_of (slice_get (row_at attributes bytes slot).tuple place))
-      → first_keys (key_of_column state column) slots ≡ keys place (rows_of attributes bytes)
-  all_numbers each =
-      map_range_same (key_of_column state column) (λ (slot : ℕ). key_of (slice_get (row_at attributes bytes slot).tuple place)) 0 slots
-      (λ slot low below. column_number slot ∙ each slot (omega (arith, below)))
-      ∙ ap (λ (m : ℕ). map (λ (slot : ℕ). key_of (slice_get (row_at attributes bytes slot).tuple place)) (range_with_len 0 m)) n.slots_are
-      ∙ sym (both_maps (λ (row : Row). key_of (slice_get row.tuple place)) (row_at attributes bytes) (range_with_len 0 (slots_in_bytes attributes bytes)))
-
-  -- of a hash tree
-  pub narrow_keys : allows MaxHeap n.attribute.domain ≡ true → first_keys (key_of_column state column) slots ≡ keys place (rows_of attributes bytes)
-  narrow_keys allowed = all_numbers (λ slot below.
-      let size : ℕ = row_length attributes in
-      let from : ℕ = size * slot in
-      let w : ℕ = width n.attribute.domain in
-      let inside : at + w ≤ fields_length attributes = field_inside attributes place n.attribute n.placed in
-      let one : List ℕ = slice_range bytes from (from + size) in
-      narrow_number n.attribute.domain bytes (drop at one) (from + at) allowed (slot_field bytes from size at w (omega (arith, inside)))
-      ∙ ap key_of (sym (value_read attributes one place n.attribute n.placed)))
-
   -- of rows that are written as they are read
-  pub ordered_keys : allows Inline n.attribute.domain ≡ true → AreWritten attributes bytes slots → first_keys (key_of_column state column) slots ≡ keys place (rows_of attributes bytes)
-  ordered_keys allowed written = all_numbers (λ slot below.
-      key_in_slot attributes bytes slot place n.attribute n.placed (number_allowed n.attribute.domain allowed) (written slot below))
+  pub ordered_keys : allows Inline n.attribute.domain ≡ true → AreWritten attributes (bytes_at state.files column.file) slots → first_keys (key_of_column state column) slots ≡ keys place (rows_of attributes (bytes_at state.files column.file))
+  ordered_keys allowed written = all_numbers state attributes place column slots n (λ slot below.
+      key_in_slot attributes (bytes_at state.files column.file) slot place n.attribute n.placed (number_allowed n.attribute.domain allowed) (written slot below))

@@ -19,6 +19,7 @@ use Rattle.stored_survey.specs.Pieces.{RowsShow}
 use Rattle.stored_survey.specs.Shown.{HasTree, IsSettledIndex, IsSettledSlot, Shows, ShowsIndex, ShowsIndexes, ShowsSlot}
 use Rattle.stored_survey.proofs.HalfParts.{gone_bytes}
 use Rattle.stored_survey.proofs.Slots.{tree_of}
+pub use Rattle.stored_mend.proofs.HeapSettled.{default_same}
 
 -- a fact of the first numbers, and of one more
 pub each_next : (P : ℕ → Type 0) (n : ℕ) → ((k : ℕ) → k < n → P k) → P n → (k : ℕ) → k < n + 1 → P k
@@ -26,12 +27,6 @@ each_next P n before here k below = ⊎_elim
     (λ (less : k < n). before k less)
     (λ (past : n ≤ k). let same : n ≡ k = omega (arith, below, past) in subst P same here)
     (cases_lt k n)
-
--- an element, whatever stands for one that is not there
-pub default_same : {X : Type 0} (xs : List X) (k : ℕ) (d e : X) → k < length xs → get_or xs k d ≡ get_or xs k e
-default_same [] k d e below = absurd (omega (arith, below))
-default_same (x ∷ xs) zero d e below = refl
-default_same (x ∷ xs) (suc k) d e below = default_same xs k d e (omega (arith, below))
 
 -- a name is among the same relations
 pub names_before : (name : List ℕ) (here there : List (Option Schema)) (k : ℕ) → here ≡ there → list_any (has_name name) (take k here) ≡ list_any (has_name name) (take k there)

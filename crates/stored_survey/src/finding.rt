@@ -20,13 +20,14 @@ ghost use Rattle.stored_survey.specs.Shown.{Shows, ShowsIndex, ShowsIndexes, Sho
 
 use crate::emptied::is_unused_slot;
 use crate::grown::ends_with_attributes;
-use crate::indexes::{has_whole_tree, is_heap};
+use crate::indexes::has_whole_tree;
 use crate::places::{rows_at, tree_at};
 use crate::reading::relation_bytes;
 use afl_base::{Failed, FileId, Files};
 use catalog::{Catalog, IndexEntry};
 use db_model::{Schema, row_length};
 use stored::Half;
+use stored_mend::is_heap;
 
 /// The first thing that is half done: of the relations by slot, and then of the indexes.
 pub fn find_half<V: Files>(files: &mut V, cat: FileId, catalog: &Catalog) -> Result<Half, Failed>

@@ -26,7 +26,7 @@ use db_model::IndexKind;
 use index_inline::ordered;
 use index_maxheap::{BUCKET_SIZE, HEAD_SIZE, verify};
 use stored::Half;
-use stored_mend::keys_of;
+use stored_mend::{is_heap, keys_of};
 
 // The bytes of the pairs of a bucket, and of one pair.
 const PAIRS_SIZE: usize = 192;
@@ -98,13 +98,6 @@ fn is_sound_entry<V: Files>(
             Ok(sound)
         }
     }
-}
-
-/// Whether an index of the kind has a tree.
-pub fn is_heap(kind: IndexKind) -> bool
-    ensures { Decides result (kind ≡ OfHeap) }
-{
-    kind == IndexKind::MaxHeap
 }
 
 fn is_hash_table(kind: IndexKind) -> bool

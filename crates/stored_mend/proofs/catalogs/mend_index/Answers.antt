@@ -13,6 +13,7 @@ use Rattle.stored_mend.proofs.ListedIndexes.{blanked_listed, index_listed, tree_
 use Rattle.stored_mend.proofs.ListedSlots.{keeps_becomes}
 use Rattle.stored_mend.proofs.ListedSteps.{listed_unwritten}
 use Rattle.stored_mend.proofs.IndexGone.{lacking_read, lacking_written, spares_catalog, tree_code, unbroken_without}
+use Rattle.stored_mend.proofs.IndexLost.{index_lost}
 use Rattle.stored_mend.proofs.catalogs.mend_index.Goals as goal
 
 pub returns-in_default-clause-sound : goal.returns-in_default-clause-sound
@@ -101,3 +102,35 @@ returns-clause-listed g c = λ told l.
     let none = subst (λ (k : ℕ). IsUnnamed old.files (tree_file k)) (slot_is c.args.slot c.in-Some-new.id c.in-Some-new.ensures) (rw (c.tree_file.ensures, c.in_ok-read.ensures.frame.same) at c.in-None.ensures.none) in
     blanked_listed old new c.in-Some.cat c.args.slot c.requires.slot told c.in-Some.ensures.found
     (keeps_becomes old new c.in-Some.cat _ _ c.in-Some.ensures.found o (returns-clause-kept g c).base) o (ap is_some (named_none old.files (tree_file c.args.slot) none)) l
+
+pub returns-in_default-clause-loses : goal.returns-in_default-clause-loses
+returns-in_default-clause-loses g c = λ told lacks. absurd (c.in_default.ensures.none (lacking_written (g.V.Files.state c.args.files.now).files c.args.slot c.requires.slot lacks))
+
+pub returns-in_default-new-clause-loses : goal.returns-in_default-new-clause-loses
+returns-in_default-new-clause-loses g c = λ told lacks. absurd (slot_number c.args.slot c.requires.slot c.new.result c.in_default-new.not-Some c.new.ensures)
+
+pub returns-then-bytes-ne2-clause-loses : goal.returns-then-bytes-ne2-clause-loses
+returns-then-bytes-ne2-clause-loses g c = λ told lacks.
+    let old = (g.V.Files.state c.args.files.now).files in
+    let slot : c.from.result ≡ c.args.slot = omega (arith, c.from.ensures) in
+    absurd (c.if-bytes-ne2.true (tree_code old c.in-Some.cat c.args.slot c.read.new.into c.in-Some.ensures.found (lacking_read old c.args.slot c.requires.slot lacks)
+    (subst (λ (n : ℕ). c.read.new.into ≡ slice_range (bytes_at old c.in-Some.cat) (1408 + 8 * n) (1408 + 8 * n + 8)) slot (c.in_ok-read.ensures.bytes told))))
+
+pub returns-in-Some-find-clause-loses : goal.returns-in-Some-find-clause-loses
+returns-in-Some-find-clause-loses g c = λ told lacks.
+    let old = g.V.Files.state c.args.files.now in
+    let named = rw (c.tree_file.ensures, c.in_ok-read.ensures.frame.same) at c.in-Some-find.ensures.found in
+    let there : is_there (tree_file c.args.slot) old.files ≡ true =
+    named_there old.files c.in-Some-find.field-0 (tree_file c.args.slot) (subst (λ (k : ℕ). IsNamed old.files c.in-Some-find.field-0 (tree_file k)) (slot_is c.args.slot c.in-Some-new.id c.in-Some-new.ensures) named) in
+    let no : false ≡ true = sym lacks.gone ∙ there in
+    absurd (cc)
+
+pub returns-clause-loses : goal.returns-clause-loses
+returns-clause-loses g c = λ told lacks.
+    let old = g.V.Files.state c.args.files.now in
+    let new = g.V.Files.state c.overwrite.new.files in
+    let slot : c.from.result ≡ c.args.slot = omega (arith, c.from.ensures) in
+    index_lost old new c.in-Some.cat c.args.slot c.in-Some.ensures.found c.requires.slot
+    (subst (λ (n : ℕ). Overwrites old new c.in-Some.cat (1408 + 8 * n) (index_slot_bytes None)) slot
+    (rw (c.in_ok-report_index.ensures.frame.same, c.in_ok-read.ensures.frame.same) at c.in_ok-overwrite.ensures.put))
+    told

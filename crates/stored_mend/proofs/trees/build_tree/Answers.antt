@@ -3,10 +3,10 @@ use Rattle.afl_base.specs.Files.{Table, bytes_at, draft_in}
 use Rattle.afl_base.specs.KeyColumn.{key_place, number_of_width}
 use Rattle.db_model.specs.HashTree.{buckets}
 use Rattle.afl_base.specs.Keys.{first_keys}
-use Rattle.std.proofs.Common.{ℕ, []}
+use Rattle.std.proofs.Common.{ℕ}
 use Rattle.index_tree.specs.Trees.{IsTreeOf}
 use Rattle.stored_mend.proofs.Replaced.{own_bytes}
-use Rattle.stored_mend.proofs.TreeFiles.{drafted, drafted_stays}
+use Rattle.stored_mend.proofs.TreeFiles.{drafted}
 use Rattle.stored_mend.proofs.trees.build_tree.Goals as goal
 
 pub build-requires-clause-count : goal.build-requires-clause-count
@@ -28,12 +28,3 @@ returns-clause-built g c =
     drafted a b made (g.V.Files.state c.draft_commit.new.self) c.in_ok-draft_commit.field-0 _ _ c.args.name _ (draft_in made).bytes _
     c.requires.one c.requires.idle begun (own_bytes b made _ _ _ c.in_ok-build.ensures.only.1) c.in_ok-draft_commit.ensures.committed
     (λ told. subst (IsTreeOf (draft_in made).bytes) keys (c.in_ok-build.ensures.tree (begun.tells ∙ told)))
-
-pub returns-clause-stays : goal.returns-clause-stays
-returns-clause-stays g c =
-    let a = g.V.Files.state c.args.files.now in
-    let b = g.V.Files.state c.draft.new.self in
-    let made = g.V.Files.state c.build.new.files in
-    let begun = rw c.in_ok-buckets.ensures.frame.same at c.in_ok-draft.ensures.begun in
-    drafted_stays a b made (g.V.Files.state c.draft_commit.new.self) c.in_ok-draft_commit.field-0 _ _ c.args.name _ (draft_in made).bytes []
-    begun (own_bytes b made _ _ _ c.in_ok-build.ensures.only.1) c.in_ok-draft_commit.ensures.committed

@@ -1,10 +1,12 @@
 use Rattle.std.proofs.Common.{◌≡◌, ◌≤◌, length}
+use Rattle.stored_mend.specs.Complete.{CompletesFirst}
 use Rattle.stored_mend.specs.Trees.{KeepsButTrees, LacksRoom}
 use Rattle.stored_mend.proofs.trees.mend_all_trees.Given as goal
 
 abbrev pub invariant-loop-slot : goal.invariant-loop-slot
 invariant-loop-slot g l = record {
   kept : KeepsButTrees (LacksRoom g.V.Files.state g.V.Files.lacks) (g.V.Files.state l.fn.files) (g.V.Files.state l.files);
+  complete : CompletesFirst (g.V.Files.state l.fn.files) (g.V.Files.state l.files) l.catalog l.slot;
   store : length (g.V.Files.state l.files).store ≡ length (g.V.Files.state l.fn.files).store;
   lent : g.V.Files.lent l.files ≡ g.V.Files.lent l.fn.files;
   later : g.V.Files.reads l.fn.files ≤ g.V.Files.reads l.files;

@@ -1,27 +1,46 @@
-use Rattle.std.proofs.Common.{◌∙◌, ℕ, length}
+use Rattle.std.proofs.Common.{rules, ◌≡◌, ◌∙◌, sym, subst, ℕ, length}
 use Rattle.afl_base.proofs.FileLaws.{named_live}
-use Rattle.afl_base.specs.Files.{Keeps, bytes_at, size_at}
-use Rattle.stored_mend.specs.Trees.{ChangesAtMost}
-use Rattle.stored_mend.proofs.TreeFiles.{becomes_at_most, built_at_most, built_behind, built_now, changes_then, keeps_changes, keys_prepared, keys_stay, names_kept, unless_space}
+use Rattle.afl_base.specs.Files.{Keeps, State, bytes_at, file_at, size_at}
+use Rattle.afl_base.specs.KeyColumn.{key_of}
+use Rattle.afl_base.specs.Keys.{first_keys}
+use Rattle.afl_base.specs.declared.kind.Kind.TheVariants.{Doubling}
+use Rattle.stored_mend.specs.Trees.{ChangesAtMost, HasTreeNow}
+use Rattle.stored_mend.proofs.TreeFiles.{becomes_at_most, becomes_now, built_at_most, built_behind, built_now, changes_then, keeps_changes, keys_prepared, keys_stay, stands_now, unless_space}
 use Rattle.stored_mend.proofs.trees.mend_tree_of.Goals as goal
 
 pub build_tree-requires-clause-keys : goal.build_tree-requires-clause-keys
 build_tree-requires-clause-keys g c =
     let old = g.V.Files.state c.args.files.now in
+    let doubles : (file_at old.files c.in-Some.tree).kind ≡ Doubling = search rules in
     let tree = c.in-Some.tree in
     let kept = rw c.in_ok-whole.ensures.frame.same at (c.in_ok-added.ensures.kept c.if-added.false) in
     keys_stay old (g.V.Files.state c.add_last_key.new.files) tree c.args.keys.now.slots c.args.keys.now.column
     (named_live old.files tree c.args.name c.in-Some.ensures.found) kept c.requires.keys
 
+pub returns-then-whole-clause-tree : goal.returns-then-whole-clause-tree
+returns-then-whole-clause-tree g c = λ told.
+    let old = g.V.Files.state c.args.files.now in
+    let keys = first_keys (key_of old c.args.keys.now.column) c.args.keys.now.slots in
+    subst (λ (s : State). HasTreeNow old.files s.files c.args.name keys) (sym c.in_ok-whole.ensures.frame.same)
+    (stands_now old.files c.in-Some.tree c.args.name keys c.in-Some.ensures.found c.in-Some.ensures.only (c.in_ok-whole.ensures.tree told c.if-whole.true))
+
+pub returns-then-added-clause-tree : goal.returns-then-added-clause-tree
+returns-then-added-clause-tree g c = λ told.
+    let old = g.V.Files.state c.args.files.now in
+    let t = rw c.in_ok-whole.ensures.frame.same at (c.in_ok-added.ensures.added c.if-added.true) in
+    becomes_now old (g.V.Files.state c.add_last_key.new.files) c.in-Some.tree c.args.name _ c.in-Some.ensures.found c.in-Some.ensures.only told t
+
 pub returns-then-added-clause-others : goal.returns-then-added-clause-others
 returns-then-added-clause-others g c =
     let old = g.V.Files.state c.args.files.now in
+    let doubles : (file_at old.files c.in-Some.tree).kind ≡ Doubling = search rules in
     let t = rw c.in_ok-whole.ensures.frame.same at (c.in_ok-added.ensures.added c.if-added.true) in
-    becomes_at_most old (g.V.Files.state c.add_last_key.new.files) c.in-Some.tree (length t.bytes) t.bytes c.args.name c.in-Some.ensures.found t.becomes
+    becomes_at_most old (g.V.Files.state c.add_last_key.new.files) c.in-Some.tree (length t.bytes) t.bytes c.args.name c.in-Some.ensures.found doubles t.becomes
 
 pub returns-in-Ok-clause-tree : goal.returns-in-Ok-clause-tree
 returns-in-Ok-clause-tree g c = λ told.
     let old = g.V.Files.state c.args.files.now in
+    let doubles : (file_at old.files c.in-Some.tree).kind ≡ Doubling = search rules in
     let mid = g.V.Files.state c.add_last_key.new.files in
     let new = g.V.Files.state c.build_tree.new.files in
     let tree = c.in-Some.tree in
@@ -29,14 +48,14 @@ returns-in-Ok-clause-tree g c = λ told.
     let found = c.in-Some.ensures.found in
     let kept = rw c.in_ok-whole.ensures.frame.same at (c.in_ok-added.ensures.kept c.if-added.false) in
     let live = named_live old.files tree name found in
-    let built = built_behind old mid new name _ _ (becomes_at_most old mid tree (size_at old.files tree) (bytes_at old.files tree) name found kept).spares
+    let built = built_behind old mid new name _ _ (becomes_at_most old mid tree (size_at old.files tree) (bytes_at old.files tree) name found doubles kept).spares
     (keys_prepared old mid tree c.args.keys.now.column c.args.keys.now.slots live kept) c.in-Ok.ensures.built in
-    built_now old new name _ told
-    (λ k named. c.in-Ok.ensures.stays k (names_kept old mid tree (size_at old.files tree) (bytes_at old.files tree) name found c.in-Some.ensures.only kept k ∙ named)) built
+    built_now old new name _ told built
 
 pub returns-in-Ok-clause-others : goal.returns-in-Ok-clause-others
 returns-in-Ok-clause-others g c =
     let old = g.V.Files.state c.args.files.now in
+    let doubles : (file_at old.files c.in-Some.tree).kind ≡ Doubling = search rules in
     let mid = g.V.Files.state c.add_last_key.new.files in
     let new = g.V.Files.state c.build_tree.new.files in
     let tree = c.in-Some.tree in
@@ -45,17 +64,18 @@ returns-in-Ok-clause-others g c =
     let kept = rw c.in_ok-whole.ensures.frame.same at (c.in_ok-added.ensures.kept c.if-added.false) in
     let live = named_live old.files tree name found in
     built_at_most old new tree name _ found c.in-Some.ensures.only
-    (built_behind old mid new name _ _ (becomes_at_most old mid tree (size_at old.files tree) (bytes_at old.files tree) name found kept).spares
+    (built_behind old mid new name _ _ (becomes_at_most old mid tree (size_at old.files tree) (bytes_at old.files tree) name found doubles kept).spares
     (keys_prepared old mid tree c.args.keys.now.column c.args.keys.now.slots live kept) c.in-Ok.ensures.built)
 
 pub returns-in-Err-clause-others : goal.returns-in-Err-clause-others
 returns-in-Err-clause-others g c =
     let old = g.V.Files.state c.args.files.now in
+    let doubles : (file_at old.files c.in-Some.tree).kind ≡ Doubling = search rules in
     let mid = g.V.Files.state c.add_last_key.new.files in
     let new = g.V.Files.state c.build_tree.new.files in
     let tree = c.in-Some.tree in
     let name = c.args.name in
     let kept = rw c.in_ok-whole.ensures.frame.same at (c.in_ok-added.ensures.kept c.if-added.false) in
     unless_space ℕ ℕ c.in-Err.stop (Keeps mid new) (ChangesAtMost old new name)
-    (λ keeps. changes_then old mid new name (becomes_at_most old mid tree (size_at old.files tree) (bytes_at old.files tree) name c.in-Some.ensures.found kept) (keeps_changes mid new name keeps))
+    (λ keeps. changes_then old mid new name (becomes_at_most old mid tree (size_at old.files tree) (bytes_at old.files tree) name c.in-Some.ensures.found doubles kept) (keeps_changes mid new name keeps))
     c.in-Err.ensures.kept

@@ -1,10 +1,13 @@
 use Rattle.std.proofs.Common.{◌≡◌, ◌≤◌, length}
+use Rattle.stored_mend.specs.Complete.{CompletesFirst}
 use Rattle.stored_mend.specs.Mending.{KeepsBase}
 use Rattle.stored_mend.proofs.trees.mend_trees.Given as goal
 
 abbrev pub invariant-loop-slot : goal.invariant-loop-slot
 invariant-loop-slot g l = record {
   kept : KeepsBase (g.V.Files.state l.fn.files) (g.V.Files.state l.files);
+  begun : CompletesFirst (g.V.Files.state l.fn.files) (g.V.Files.state l.files) l.catalog 0;
+  complete : l.waiting ≡ 0 → CompletesFirst (g.V.Files.state l.fn.files) (g.V.Files.state l.files) l.catalog l.slot;
   few : l.waiting ≤ l.slot;
   store : length (g.V.Files.state l.files).store ≡ length (g.V.Files.state l.fn.files).store;
   lent : g.V.Files.lent l.files ≡ g.V.Files.lent l.fn.files;
