@@ -4,4 +4,6 @@ pub mod Mending
 pub mod Report
 pub mod Rows
 pub mod Slots
+pub mod Stages
 pub mod Trees
+pub mod Whole

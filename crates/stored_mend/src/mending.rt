@@ -4,9 +4,13 @@
 
 ghost use Rattle.std.specs.Prelude.{◌≡◌, IfOk, IfSome, IsTrue, None, OnOk, length, ⊤};
 ghost use Rattle.afl_base.specs.Keeping.{ChangesOrLacks, OnlyReads};
+ghost use Rattle.catalog.specs.Catalogs.{catalog_slots};
+ghost use Rattle.catalog.specs.Rules.{catalog_in};
 ghost use Rattle.stored.specs.Mended.{mended_catalog};
+ghost use Rattle.stored.specs.declared.half.Half.{Half};
 ghost use Rattle.stored_mend.specs.Filled.{FillsIn};
 ghost use Rattle.stored_mend.specs.Mending.{MendsAsBefore, PutsRight, StandsForMended};
+ghost use Rattle.stored_mend.specs.Stages.{HasWholeRows, IsCatalogSound};
 ghost use Rattle.stored_mend.specs.Trees.{LacksRoom};
 
 use crate::catalogs::{complete_mark, mend_index, mend_relation, take_back_catalog};
@@ -131,6 +135,9 @@ fn mend_all_rows<V: Files>(
         → catalog.now.relations ≡ (mended_catalog (V.state files.old).files).relations }
     requires idle { (V.state files.old).draft ≡ None }
     ensures kept { OnOk result (FillsIn (λ slot. ⊤) (V.state files.old) (V.state files.new)) }
+    ensures whole { IsTrue (V.state files.old).tells → catalog_slots catalog.now ≡ catalog_in (V.state files.old).files
+        → (half : Half) → IsCatalogSound (V.state files.old).files half
+        → OnOk result ((after : Half) × HasWholeRows (V.state files.new).files after) }
     ensures frame { ChangesOrLacks V.state V.lent V.reads V.faults V.lacks files.old files.new result }
 {
     for slot in 0..8u16 {
