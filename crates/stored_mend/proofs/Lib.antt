@@ -41,3 +41,8 @@ pub mod Together
 pub mod TreeFiles
 pub mod TreesLost
 pub mod Unasked
+pub mod TakenRows
+pub mod MendedRows
+pub mod SoundCatalog
+pub mod RowsAtEnd
+pub mod WholeRows

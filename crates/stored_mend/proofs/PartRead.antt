@@ -1,12 +1,11 @@
 -- The part of a row at the end of a file, as it is read and filled.
-use Rattle.std.proofs.Common.{◌≡◌, ℕ, ◌+◌, ◌-◌, ◌<◌, ◌≤◌, List, [], ◌∷◌, ◌++◌, length, take, drop, set, get_or, replicate, true, false, IsTrue, refl, ap, sym, subst, ◌∙◌, arith}
-use Rattle.std.specs.Prelude.{◌==◌, slice_index, slice_range}
-use Rattle.std.proofs.lemmas.List.{drop-replicate, length-drop, get_or-set_same, length-set, take-set-le, take_rest}
+use Rattle.std.proofs.Common.{◌≡◌, ℕ, ◌+◌, ◌-◌, List, ◌++◌, length, take, drop, set, replicate, ap, sym, subst, ◌∙◌, arith}
+use Rattle.std.specs.Prelude.{slice_range}
+use Rattle.std.proofs.lemmas.List.{drop-replicate, length-drop, take_rest}
 use Rattle.db_model.specs.declared.schemas.Attribute.{Attribute}
-use Rattle.db_model.specs.Row.{AllSuit, fields_length, row_bytes, row_length, row_of, tuple_of}
-use Rattle.db_model.proofs.Rows.{take_front}
+use Rattle.db_model.specs.Row.{fields_length, row_length}
 use Rattle.padded.specs.Padded.{padded}
-use Rattle.stored_mend.specs.Filled.{FillsFields, FillsPart, IsRemovedRow, part_of_row, row_before}
+use Rattle.stored_mend.specs.Filled.{FillsFields, FillsPart, part_of_row, row_before}
 use Rattle.stored_mend.specs.Rows.{whole_length}
 
 -- what is read behind the whole rows
@@ -24,11 +23,6 @@ before_read attributes bytes from upto is start =
     let end : from + (upto - from) ≡ upto = omega (arith, start) in
     ap (slice_range bytes from) (end ∙ is) ∙ ap (λ (n : ℕ). slice_range bytes n (whole_length attributes bytes)) (start ∙ ap (λ (n : ℕ). n - row_length attributes) is)
 
--- the part stays where what is behind it is filled and marked
-pub part_stays : (part rest mid fields : List ℕ) (have last : ℕ) → length part ≡ have → have ≤ last → mid ≡ part ++ rest → take have fields ≡ take have mid → take have (set fields last 3) ≡ part
-part_stays part rest mid fields have last long within is kept =
-    take-set-le have fields last 3 within ∙ kept ∙ ap (take have) is ∙ take_front have part rest long
-
 pub part_filled : (attributes : List Attribute) (before read part row mid fields : List ℕ) (have last : ℕ) → row ≡ replicate (row_length attributes) 0 → read ≡ before → mid ≡ part ++ drop have row → length part ≡ have
     → last ≡ fields_length attributes → FillsFields attributes read 0 have mid fields → FillsPart attributes before part (set fields last 3)
 part_filled attributes before read part row mid fields have last zeros same is long at filled =
@@ -42,19 +36,3 @@ part_filled attributes before read part row mid fields have last zeros same is l
           (subst (λ (xs : List ℕ). FillsFields attributes xs 0 have mid fields) same filled));
       marked = ap (λ (k : ℕ). set fields k 3) at;
     }
-
-pub mark_there : (fields : List ℕ) (last : ℕ) → last < length fields → slice_index (set fields last 3) last ≡ 3
-mark_there fields last inside = get_or-set_same fields last 3 0 inside
-
-pub mark_last : (fields : List ℕ) (last : ℕ) → length fields ≡ last + 1 → slice_index (set fields last 3) (length (set fields last 3) - 1) ≡ 3
-mark_last fields last long =
-    let end : length (set fields last 3) - 1 ≡ last = omega (arith, length-set fields last 3, long) in
-    ap (slice_index (set fields last 3)) end ∙ mark_there fields last (omega (arith, long))
-
--- a row with the mark of a removed one
-pub removed_is : (attributes : List Attribute) (row : List ℕ) → slice_index row (fields_length attributes) ≡ 3 → AllSuit attributes (tuple_of attributes row) → row_bytes attributes (row_of attributes row) ≡ row → IsRemovedRow attributes row
-removed_is attributes row marked suits is = record {
-  tuple = tuple_of attributes row;
-  suits = suits;
-  written = sym is ∙ ap (λ (n : ℕ). row_bytes attributes (record { tuple = tuple_of attributes row; live = n == 1 })) marked;
-}

@@ -8,3 +8,4 @@ pub mod Rows
 pub mod Slots
 pub mod Stages
 pub mod Trees
+pub mod Whole

@@ -7,9 +7,12 @@ ghost use Rattle.std.specs.Prelude.{◌≡◌, ◌≢◌, ◌≤◌, ◌<◌, �
 ghost use Rattle.afl_base.specs.Files.{Becomes, Drafts, IsLive, IsNamed, WritesDraft, bytes_at, draft_in, file_at, size_at};
 ghost use Rattle.afl_base.specs.Keeping.{Changes, ChangesOrLacks, OnlyReads};
 ghost use Rattle.afl_base.specs.declared.kind.Kind.TheVariants.{Doubling};
+ghost use Rattle.catalog.specs.Catalogs.{catalog_slots};
+ghost use Rattle.space_model.specs.FileNames.{rows_file};
 ghost use Rattle.stored.specs.Mended.{mended_catalog};
 ghost use Rattle.stored_mend.specs.Filled.{EndsInRow, FillsIn, HasRemovedMore};
 ghost use Rattle.stored_mend.specs.Rows.{AreSameRows, ChangesOne, MayEndAt};
+ghost use Rattle.stored_mend.specs.Whole.{MakesWhole, MendsRows};
 
 use crate::filling::fill_row;
 use crate::report::{Mended, Report};
@@ -20,8 +23,8 @@ use db_model::{Schema, row_length};
 // The bytes that are copied at once.
 const PIECE_SIZE: u32 = 256;
 
-/// Fills a row of the relation in a slot that is there in part to a removed row. One that is the front of no row is
-/// taken back.
+/// Fills a row of the relation in a slot that is there in part to a removed row. One that is the front of no row, or
+/// of one that an index does not take, is taken back.
 pub fn mend_rows<V: Files>(
     files: &mut V,
     slot: u16,
@@ -33,6 +36,8 @@ pub fn mend_rows<V: Files>(
         → catalog.now.relations ≡ (mended_catalog (V.state files.old).files).relations }
     requires idle { (V.state files.old).draft ≡ None }
     ensures kept { OnOk result (FillsIn (λ k. k ≡ slot) (V.state files.old) (V.state files.new)) }
+    ensures whole { let slots = catalog_slots catalog.now in OnOk result
+        (MakesWhole slots slot (slot + 1) (V.state files.old) (V.state files.new)) }
     ensures frame { ChangesOrLacks V.state V.lent V.reads V.faults V.lacks files.old files.new result }
 {
     match RelationId::new(slot) {
@@ -55,11 +60,13 @@ fn mend_relation_rows<V: Files>(
         → catalog.now.relations ≡ (mended_catalog (V.state files.old).files).relations }
     requires idle { (V.state files.old).draft ≡ None }
     ensures kept { OnOk result (FillsIn (λ k. k ≡ id) (V.state files.old) (V.state files.new)) }
+    ensures whole { let slots = catalog_slots catalog.now in OnOk result
+        (MakesWhole slots id (id + 1) (V.state files.old) (V.state files.new)) }
     ensures frame { ChangesOrLacks V.state V.lent V.reads V.faults V.lacks files.old files.new result }
 {
     match &catalog.relations[id.number() as usize] {
         Some(schema) => {
-            mend_rows_of(files, schema, catalog.version, rows_file(id), report)?;
+            mend_rows_of(files, id, schema, catalog, report)?;
             Ok(())
         }
         None => Ok(()),
@@ -68,20 +75,23 @@ fn mend_relation_rows<V: Files>(
 
 fn mend_rows_of<V: Files>(
     files: &mut V,
+    id: RelationId,
     schema: &Schema,
-    version: u8,
-    name: Name,
+    catalog: &Catalog,
     report: &mut Report,
 ) -> Result<(), FileError>
     requires idle { (V.state files.old).draft ≡ None }
     ensures end { IsTrue (V.state files.old).tells → OnOk result
-        (EndsInRow (V.state files.old).files (V.state files.new).files name schema.now.attributes) }
+        (EndsInRow (V.state files.old).files (V.state files.new).files (rows_file id) schema.now.attributes) }
     ensures rows { IsTrue (V.state files.old).tells → OnOk result
-        (AreSameRows (V.state files.old).files (V.state files.new).files name schema.now.attributes
-        ⊎ HasRemovedMore (V.state files.old).files (V.state files.new).files name schema.now.attributes) }
-    ensures others { OnOk result (ChangesOne (V.state files.old) (V.state files.new) name) }
+        (AreSameRows (V.state files.old).files (V.state files.new).files (rows_file id) schema.now.attributes
+        ⊎ HasRemovedMore (V.state files.old).files (V.state files.new).files (rows_file id) schema.now.attributes) }
+    ensures mended { IsTrue (V.state files.old).tells → OnOk result
+        (MendsRows (catalog_slots catalog.now) id schema.now.attributes (V.state files.old) (V.state files.new)) }
+    ensures others { OnOk result (ChangesOne (V.state files.old) (V.state files.new) (rows_file id)) }
     ensures frame { ChangesOrLacks V.state V.lent V.reads V.faults V.lacks files.old files.new result }
 {
+    let name = rows_file(id);
     let Some(file) = files.find(name) else {
         return Ok(());
     };
@@ -90,7 +100,7 @@ fn mend_rows_of<V: Files>(
     if whole == size {
         return Ok(());
     }
-    if fill_row(files, file, &schema.attributes, version)? {
+    if fill_row(files, file, &schema.attributes, catalog, id)? {
         report.add(Mended::Row(schema.name));
         return Ok(());
     }

@@ -2,45 +2,54 @@
 
 #![tactic(auto)]
 
-ghost use Rattle.std.specs.Prelude.{◌≡◌, ◌≢◌, ◌+◌, ◌-◌, ◌/◌, ◌≤◌, ◌<◌, ◌++◌, IfOk, IfSome, IsFalse, IsTrue, None, OnOk, drop, length, replicate, slice_index, slice_range, take};
+ghost use Rattle.std.specs.Bool.{Decides};
+ghost use Rattle.std.specs.Prelude.{◌≡◌, ◌≢◌, ◌+◌, ◌-◌, ◌/◌, ◌≤◌, ◌<◌, ◌++◌, IfNone, IfOk, IfSome, IsFalse, IsTrue, None, OnOk, drop, length, replicate, slice_index, slice_range, take, true};
 ghost use Rattle.afl_base.specs.Files.{Appends, IsLive, bytes_at, file_at, size_at};
 ghost use Rattle.afl_base.specs.Keeping.{ChangesOrLacks, OnlyReads};
 ghost use Rattle.afl_base.specs.declared.kind.Kind.TheVariants.{Doubling};
-ghost use Rattle.db_model.specs.Row.{row_length, slots_in_bytes};
+ghost use Rattle.catalog.specs.Catalogs.{catalog_slots};
+ghost use Rattle.db_model.specs.Row.{fields_length, row_length, slots_in_bytes};
 ghost use Rattle.db_model.specs.Step.{slots_limit};
 ghost use Rattle.stored_mend.specs.Filled.{FillsPart, FillsRow, IsRemovedRow, part_of_row, row_before};
 ghost use Rattle.stored_mend.specs.Rows.{whole_length, whole_rows};
+ghost use Rattle.stored_mend.specs.Whole.{HasFilling, HasPart, IsFillable, IsTakenRow};
 ghost use Rattle.tuple_file.specs.Tuples.{AreRows};
 
 use crate::fields::fill_fields;
 use crate::rows::is_row;
-use afl_base::{Failed, FileError, FileId, Files, Kind};
+use crate::taking::all_take;
+use afl_base::{Failed, FileError, FileId, Files, Kind, RelationId};
+use catalog::Catalog;
 use db_model::{Attributes, row_length};
 
 // The most bytes of a row.
 const ROW_SIZE: usize = 128;
 
 /// Fills a row that is there in part at the end of a relation's file to a removed row, by one append. It answers
-/// whether it did: not where the part is the front of no row, or where a relation of the version has no slot more.
+/// whether it did: not where the part is the front of no row, where an index of the relation does not take the row,
+/// or where a relation of the version has no slot more.
 pub fn fill_row<V: Files>(
     files: &mut V,
     file: FileId,
     attributes: &Attributes,
-    version: u8,
+    catalog: &Catalog,
+    relation: RelationId,
 ) -> Result<bool, FileError>
     requires live { IsLive (V.state files.old).files file }
     requires idle { (V.state files.old).draft ≡ None }
+    ensures may { let slots = catalog_slots catalog.now in IsTrue (V.state files.old).tells → IfOk result (λ filled.
+        Decides filled (IsFillable slots relation attributes.now (file_at (V.state files.old).files file))) }
     ensures filled { IfOk result (λ filled. IsTrue filled
         → FillsRow (V.state files.old) (V.state files.new) file attributes.now) }
     ensures rows { IsTrue (V.state files.old).tells → IfOk result (λ filled. IsTrue filled
-        → AreRows version attributes.now (whole_rows attributes.now (bytes_at (V.state files.old).files file))
-        → AreRows version attributes.now (bytes_at (V.state files.new).files file)) }
+        → AreRows catalog.now.version attributes.now (whole_rows attributes.now (bytes_at (V.state files.old).files file))
+        → AreRows catalog.now.version attributes.now (bytes_at (V.state files.new).files file)) }
     ensures stays { IfOk result (λ filled. IsFalse filled → V.state files.new ≡ V.state files.old) }
     ensures frame { ChangesOrLacks V.state V.lent V.reads V.faults V.lacks files.old files.new result }
 {
-    match part_at_end(files, file, attributes, version) {
+    match part_at_end(files, file, attributes, catalog.version) {
         Some(have) => {
-            let filled = fill_part(files, file, attributes, have)?;
+            let filled = fill_part(files, file, attributes, catalog, relation, have)?;
             Ok(filled)
         }
         None => Ok(false),
@@ -52,16 +61,19 @@ pub fn may_fill<V: Files>(
     files: &mut V,
     file: FileId,
     attributes: &Attributes,
-    version: u8,
+    catalog: &Catalog,
+    relation: RelationId,
 ) -> Result<bool, Failed>
     requires live { IsLive (V.state files.old).files file }
+    ensures may { let slots = catalog_slots catalog.now in IsTrue (V.state files.old).tells → IfOk result (λ may.
+        Decides may (IsFillable slots relation attributes.now (file_at (V.state files.old).files file))) }
     ensures frame { OnlyReads V.state V.lent V.reads V.faults files.old files.new result }
 {
-    match part_at_end(files, file, attributes, version) {
+    match part_at_end(files, file, attributes, catalog.version) {
         Some(have) => {
             let mut bytes = [0; ROW_SIZE];
             let row = &mut bytes[..row_length(attributes)];
-            removed_row(files, file, attributes, have, row)
+            removed_row(files, file, attributes, catalog, relation, have, row)
         }
         None => Ok(false),
     }
@@ -84,6 +96,7 @@ fn part_at_end<V: Files>(
         ≡ size_at (V.state files.now).files file) }
     ensures few { IfSome result (λ have.
         slots_in_bytes attributes.now (bytes_at (V.state files.now).files file) < slots_limit version) }
+    ensures none { IfNone result (HasPart version attributes.now (file_at (V.state files.now).files file) → ⊥) }
 {
     let length = row_length(attributes);
     if length > ROW_SIZE || !has_slot(files, file, length as u32, version) {
@@ -96,11 +109,13 @@ fn part_at_end<V: Files>(
     Some(have)
 }
 
-// Fills a row of which so many bytes stand at the end of a file, where they are the front of one.
+// Fills a row of which so many bytes stand at the end of a file, where they are the front of one that each index takes.
 fn fill_part<V: Files>(
     files: &mut V,
     file: FileId,
     attributes: &Attributes,
+    catalog: &Catalog,
+    relation: RelationId,
     have: usize,
 ) -> Result<bool, FileError>
     requires live { IsLive (V.state files.old).files file }
@@ -111,6 +126,8 @@ fn fill_part<V: Files>(
         ≡ size_at (V.state files.old).files file }
     requires part { have < row_length attributes.now }
     requires few { slots_in_bytes attributes.now (bytes_at (V.state files.old).files file) < 32768 }
+    ensures may { let bytes = bytes_at (V.state files.old).files file in IsTrue (V.state files.old).tells
+        → IfOk result (λ filled. Decides filled (HasFilling (catalog_slots catalog.now) relation attributes.now bytes)) }
     ensures filled { IfOk result (λ filled. IsTrue filled
         → FillsRow (V.state files.old) (V.state files.new) file attributes.now) }
     ensures stays { IfOk result (λ filled. IsFalse filled → V.state files.new ≡ V.state files.old) }
@@ -118,7 +135,7 @@ fn fill_part<V: Files>(
 {
     let mut bytes = [0; ROW_SIZE];
     let row = &mut bytes[..row_length(attributes)];
-    if !removed_row(files, file, attributes, have, row)? {
+    if !removed_row(files, file, attributes, catalog, relation, have, row)? {
         return Ok(false);
     }
     append_rest(files, file, row, have)?;
@@ -131,16 +148,21 @@ fn has_slot<V: Files>(files: &V, file: FileId, length: u32, version: u8) -> bool
     requires some { 1 ≤ length }
     ensures doubles { IsTrue result → (file_at (V.state files.now).files file).kind ≡ Doubling }
     ensures few { IsTrue result → size_at (V.state files.now).files file / length < slots_limit version }
+    ensures none { IsFalse result → (file_at (V.state files.now).files file).kind ≡ Doubling
+        → size_at (V.state files.now).files file / length < slots_limit version → ⊥ }
 {
     let slots = files.size(file) / length;
     files.kind(file) == Kind::Doubling && slots < slots_limit(version)
 }
 
-// Fills `row` with the removed row that a part at the end of a file is the front of, and answers whether it is one.
+// Fills `row` with the removed row that a part at the end of a file is the front of, and answers whether it is one that
+// each index takes.
 fn removed_row<V: Files>(
     files: &mut V,
     file: FileId,
     attributes: &Attributes,
+    catalog: &Catalog,
+    relation: RelationId,
     have: usize,
     row: &mut [u8],
 ) -> Result<bool, Failed>
@@ -157,11 +179,14 @@ fn removed_row<V: Files>(
         (part_of_row attributes.now (bytes_at (V.state files.old).files file)) row.new) }
     ensures marked { OnOk result (slice_index row.new (length row.new - 1) ≡ 3) }
     ensures removed { IfOk result (λ removed. IsTrue removed → IsRemovedRow attributes.now row.new) }
+    ensures may { let bytes = bytes_at (V.state files.old).files file in IsTrue (V.state files.old).tells
+        → IfOk result (λ may. Decides may (HasFilling (catalog_slots catalog.now) relation attributes.now bytes)) }
     ensures size { length row.new ≡ length row.old }
     ensures frame { OnlyReads V.state V.lent V.reads V.faults files.old files.new result }
 {
     let length = row.len();
-    let whole = files.size(file) - have as u32;
+    let size = files.size(file);
+    let whole = size - have as u32;
     blank(row);
     read_front(files, file, whole, have, row)?;
     let mut last = [0; ROW_SIZE];
@@ -170,7 +195,34 @@ fn removed_row<V: Files>(
     files.read(file, from, before)?;
     fill_fields(attributes.as_slice(), before, row, have);
     row[length - 1] = 3;
-    Ok(is_row(attributes, row))
+    let slots = size / length as u32;
+    Ok(is_taken(attributes, catalog, relation, slots, before, row))
+}
+
+// Whether bytes with the mark of a removed row are one that each index takes.
+fn is_taken(
+    attributes: &Attributes,
+    catalog: &Catalog,
+    relation: RelationId,
+    slots: u32,
+    before: &[u8],
+    row: &[u8],
+) -> bool
+    requires size { length row.now ≡ row_length attributes.now }
+    requires before { 1 ≤ length before.now → fields_length attributes.now ≤ length before.now }
+    requires marked { slice_index row.now (fields_length attributes.now) ≡ 3 }
+    ensures { let indexes = (catalog_slots catalog.now).indexes in Decides result
+        (IsTakenRow indexes relation attributes.now slots before.now row.now) }
+{
+    is_row(attributes, row)
+        && all_take(
+            &catalog.indexes,
+            relation,
+            attributes.as_slice(),
+            slots,
+            before,
+            row,
+        )
 }
 
 // Makes all bytes zero.

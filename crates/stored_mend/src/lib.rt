@@ -17,6 +17,7 @@ mod pieces;
 mod report;
 mod rows;
 mod strays;
+mod taking;
 mod trees;
 
 pub use decoding::mended_relation;
@@ -26,3 +27,4 @@ pub use lines::write_report;
 pub use listing::{SIZE_OF_VERSION_1, VERSION_MARK, whole_catalog};
 pub use mending::mend_database;
 pub use report::{Mended, Report};
+pub use rows::is_row;

@@ -2,15 +2,18 @@
 
 #![tactic(auto)]
 
-ghost use Rattle.std.specs.Prelude.{◌≡◌, IfOk, IfSome, IsTrue, None, OnOk, length, ⊤};
+ghost use Rattle.std.specs.Prelude.{◌≡◌, ◌≢◌, IfNone, IfOk, IfSome, IsTrue, None, OnOk, length, ⊤};
 ghost use Rattle.afl_base.specs.Keeping.{ChangesOrLacks, OnlyReads};
+ghost use Rattle.catalog.specs.Catalogs.{catalog_slots};
+ghost use Rattle.catalog.specs.Rules.{catalog_in, first_broken};
 ghost use Rattle.stored.specs.CutTables.{IsCutTable};
 ghost use Rattle.stored.specs.Mended.{mended_catalog};
+ghost use Rattle.stored.specs.Sound.{IsSoundTable};
 ghost use Rattle.stored.specs.declared.half.Half.{Half};
 ghost use Rattle.stored_mend.specs.Filled.{FillsIn};
 ghost use Rattle.stored_mend.specs.Listed.{IsListedTo, indexes_below, trees_below};
 ghost use Rattle.stored_mend.specs.Mending.{MendsAsBefore, PutsRight, StandsForMended};
-ghost use Rattle.stored_mend.specs.Stages.{IsCatalogSound};
+ghost use Rattle.stored_mend.specs.Stages.{HasWholeRows, IsCatalogSound};
 ghost use Rattle.stored_mend.specs.Trees.{LacksRoom};
 
 use crate::catalogs::{complete_mark, mend_index, mend_relation, take_back_catalog};
@@ -21,15 +24,17 @@ use crate::trees::mend_all_trees;
 use afl_base::{Failed, FileError, Files};
 use catalog::{Catalog, load};
 
-/// Repairs files in which a cut left a part of a change, as `survey` tells, and reports what it did.
-/// It makes room before each change, and `Space` has the pages that were lacking. It is made so that it
-/// can be begun anew where it was cut itself, or had no space.
+/// Repairs files in which a cut left a part of a change, as `may_be_cut` tells, and reports what it did:
+/// they are sound then. It makes room before each change, and `Space` has the pages that were lacking. It
+/// can be begun anew if it was cut itself, or had no space.
 pub fn mend_database<V: Files>(files: &mut V, report: &mut Report) -> Result<(), FileError>
     requires idle { (V.state files.old).draft ≡ None }
     ensures idle { OnOk result ((V.state files.new).draft ≡ None) }
     ensures kept { OnOk result
         (PutsRight (LacksRoom V.state V.lacks) (V.state files.old) (V.state files.new)) }
-    ensures sound { IsTrue (V.state files.old).tells → OnOk result
+    ensures sound { IsTrue (V.state files.old).tells → IsCutTable (V.state files.old).files
+        → OnOk result (IsSoundTable (V.state files.new).files) }
+    ensures stands { IsTrue (V.state files.old).tells → OnOk result
         (StandsForMended (V.state files.old).files (V.state files.new).files) }
     ensures frame { ChangesOrLacks V.state V.lent V.reads V.faults V.lacks files.old files.new result }
 {
@@ -58,6 +63,9 @@ fn mend_listed<V: Files>(files: &mut V, report: &mut Report) -> Result<(), FileE
     requires idle { (V.state files.old).draft ≡ None }
     ensures kept { OnOk result
         (PutsRight (LacksRoom V.state V.lacks) (V.state files.old) (V.state files.new)) }
+    ensures sound { IsTrue (V.state files.old).tells → (half : Half)
+        → IsCatalogSound (V.state files.old).files half
+        → OnOk result (IsSoundTable (V.state files.new).files) }
     ensures frame { ChangesOrLacks V.state V.lent V.reads V.faults V.lacks files.old files.new result }
 {
     let found = sound_catalog(files)?;
@@ -76,6 +84,10 @@ fn sound_catalog<V: Files>(files: &mut V) -> Result<Option<Catalog>, Failed>
     ensures indexes { IfOk result (λ r. IfSome r (λ catalog. length catalog.indexes ≡ 8)) }
     ensures listed { IsTrue (V.state files.old).tells → IfOk result (λ r. IfSome r (λ catalog.
         catalog.relations ≡ (mended_catalog (V.state files.old).files).relations)) }
+    ensures loaded { IsTrue (V.state files.old).tells → IfOk result (λ r. IfSome r (λ catalog.
+        catalog_slots catalog ≡ catalog_in (V.state files.old).files)) }
+    ensures broken { IsTrue (V.state files.old).tells
+        → IfOk result (λ r. IfNone r (first_broken (V.state files.old).files ≢ None)) }
     ensures frame { OnlyReads V.state V.lent V.reads V.faults files.old files.new result }
 {
     match load(files)? {
@@ -136,6 +148,10 @@ fn mend_contents<V: Files>(
     requires idle { (V.state files.old).draft ≡ None }
     ensures kept { OnOk result
         (PutsRight (LacksRoom V.state V.lacks) (V.state files.old) (V.state files.new)) }
+    ensures sound { IsTrue (V.state files.old).tells
+        → catalog_slots catalog.now ≡ catalog_in (V.state files.old).files
+        → (half : Half) → IsCatalogSound (V.state files.old).files half
+        → OnOk result (IsSoundTable (V.state files.new).files) }
     ensures frame { ChangesOrLacks V.state V.lent V.reads V.faults V.lacks files.old files.new result }
 {
     mend_all_rows(files, catalog, report)?;
@@ -153,6 +169,9 @@ fn mend_all_rows<V: Files>(
         → catalog.now.relations ≡ (mended_catalog (V.state files.old).files).relations }
     requires idle { (V.state files.old).draft ≡ None }
     ensures kept { OnOk result (FillsIn (λ slot. ⊤) (V.state files.old) (V.state files.new)) }
+    ensures whole { IsTrue (V.state files.old).tells → catalog_slots catalog.now ≡ catalog_in (V.state files.old).files
+        → (half : Half) → IsCatalogSound (V.state files.old).files half
+        → OnOk result ((after : Half) × HasWholeRows (V.state files.new).files after) }
     ensures frame { ChangesOrLacks V.state V.lent V.reads V.faults V.lacks files.old files.new result }
 {
     for slot in 0..8u16 {

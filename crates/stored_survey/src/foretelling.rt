@@ -144,7 +144,7 @@ fn foretell_row<V: Files>(
     let Some(file) = files.find(rows_file(id)) else {
         return Ok(());
     };
-    if may_fill(files, file, &schema.attributes, catalog.version)? {
+    if may_fill(files, file, &schema.attributes, catalog, id)? {
         foretell_keys(files, catalog, slot, report);
     }
     Ok(())
