@@ -11,8 +11,8 @@ use Rattle.session_model.specs.Wanted.{WantsOver, room_in}
 use Rattle.space_model.specs.Enough.{most}
 use Rattle.space_model.specs.FileNames.{asks_in, size_in}
 use Rattle.space_model.specs.Wants.{Wants}
-use Rattle.sound_image.specs.Images.{IsSound, base}
-use Rattle.sound_image.specs.Lacking.{LacksFor}
+use Rattle.image_model.specs.Images.{IsSound, base}
+use Rattle.image_model.specs.Lacking.{LacksFor}
 use Rattle.stored.specs.Base.{base_of}
 use Rattle.stored.specs.Sound.{IsSoundTable}
 use Rattle.antelope_run.specs.SessionImage.{IsImageOf}

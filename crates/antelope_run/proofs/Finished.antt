@@ -12,8 +12,8 @@ use Rattle.run_input.specs.declared.ending.InputEnding.{InputEnding}
 use Rattle.run_input.specs.declared.ending.InputEnding.TheVariants.{Input, Long, Early}
 use Rattle.reply_text.proofs.Pieces.{append_known-twice}
 use Rattle.reply_text.specs.WroteLess.{WroteLess}
-use Rattle.sound_image.specs.Images.{base}
-use Rattle.sound_image.specs.Mending.{ImageMendsTo}
+use Rattle.image_model.specs.Images.{base}
+use Rattle.image_model.specs.Mending.{ImageMendsTo}
 use Rattle.run_entries.proofs.Composed.{part_written}
 use Rattle.run_entries.specs.Carried.{Carried, FoundNoRoom, Limits, SaidLess, SaidNone, Standing, Stopped, no_space}
 use Rattle.run_entries.specs.Went.{CarriedAll, ReachedLimit, TookSome, Went, StoppedWithin}

@@ -16,8 +16,8 @@ use Rattle.run_input.specs.declared.ending.InputEnding.{InputEnding}
 use Rattle.run_input.specs.declared.ending.InputEnding.TheVariants.{Input, Long, Early}
 use Rattle.reply_text.proofs.Pieces.{append_known-nil}
 use Rattle.reply_text.specs.WroteLess.{WroteLess}
-use Rattle.sound_image.specs.Images.{IsSound, base}
-use Rattle.sound_image.specs.Mending.{ImageMendsTo}
+use Rattle.image_model.specs.Images.{IsSound, base}
+use Rattle.image_model.specs.Mending.{ImageMendsTo}
 use Rattle.run_entries.specs.Carried.{Limits, Standing}
 use Rattle.run_entries.specs.Went.{Went}
 use Rattle.run_model.specs.Line.{Line}

@@ -7,7 +7,7 @@ use Rattle.db_model.specs.Cost.{sum}
 use Rattle.db_model.specs.Database.{Database}
 use Rattle.db_model.specs.RunCost.{opening_cost, slots_opened}
 use Rattle.stored.specs.Base.{base_of}
-use Rattle.sound_image.specs.Images.{base, files_of_image}
+use Rattle.image_model.specs.Images.{base, files_of_image}
 
 sums : (db other : Database) → db ≡ other → sum (map (slots_opened db) (range_with_len 0 8)) ≡ sum (map (slots_opened other) (range_with_len 0 8))
 sums db other e = ap (λ (d : Database). sum (map (slots_opened d) (range_with_len 0 8))) e

@@ -12,8 +12,8 @@ use Rattle.run_model.proofs.Parts.{script_parts}
 use Rattle.run_frames.specs.Frames.{frame_cut, frame_line}
 use Rattle.run_frames.specs.Served.{serve_talk}
 use Rattle.run_frames.proofs.Ending.{frame_parts}
-use Rattle.sound_image.specs.Images.{IsSound, base}
-use Rattle.sound_image.proofs.Judged.{sound_unbroken}
+use Rattle.image_model.specs.Images.{IsSound, base}
+use Rattle.image_model.proofs.Judged.{sound_unbroken}
 use Rattle.antelope_run.specs.declared.came.Came.{Came}
 use Rattle.antelope_run.specs.declared.came.Came.TheVariants.{Opened, Refused, Unsaid, Failed}
 use Rattle.run_words.specs.declared.words.Form.{Form}

@@ -11,7 +11,7 @@ use Rattle.run_model.specs.Talk.{Talk, talk_costs}
 use Rattle.run_model.specs.Scripts.{script_line, script_talk}
 use Rattle.run_frames.specs.Frames.{frame_line}
 use Rattle.run_frames.specs.Served.{serve_talk}
-use Rattle.sound_image.specs.Images.{IsSound, base}
+use Rattle.image_model.specs.Images.{IsSound, base}
 use Rattle.run_words.specs.declared.words.Form.{Form}
 use Rattle.run_words.specs.declared.words.Form.TheVariants.{Run, Gen, Plan, Serve, Dump, Look}
 use Rattle.antelope_run.specs.Does.{CarriedReads, InputReads}

@@ -7,7 +7,7 @@ use Rattle.run_input.specs.declared.ending.InputEnding.{InputEnding}
 use Rattle.reply_text.proofs.Pieces.{append_known-nil}
 use Rattle.reply_text.specs.WroteLess.{WroteLess}
 use Rattle.run_model.specs.Runs.{World, image_line}
-use Rattle.sound_image.specs.Images.{IsFirstBroken}
+use Rattle.image_model.specs.Images.{IsFirstBroken}
 use Rattle.antelope_run.specs.declared.came.Came.{Came}
 use Rattle.antelope_run.specs.declared.came.Came.TheVariants.{Refused, Unsaid}
 use Rattle.run_words.specs.declared.words.Form.{Form}

@@ -6,8 +6,8 @@ use Rattle.db_model.specs.declared.commands.Command.{Command}
 use Rattle.db_model.specs.Database.{Database, bare}
 use Rattle.space_model.specs.Enough.{enough, file_sizes, most}
 use Rattle.space_model.proofs.More.{more_pages}
-use Rattle.sound_image.specs.Images.{base}
-use Rattle.sound_image.specs.Lacking.{LacksFor}
+use Rattle.image_model.specs.Images.{base}
+use Rattle.image_model.specs.Lacking.{LacksFor}
 use Rattle.run_model.specs.Runs.{HasEnough, InputFoundNoSpace, Machine, StopsAt, World, machine_from}
 use Rattle.run_model.specs.Line.{Line}
 use Rattle.run_model.specs.Talk.{Talk}

@@ -22,7 +22,7 @@ use Rattle.run_words.specs.declared.words.Form.{Form}
 use Rattle.run_words.specs.declared.words.Form.TheVariants.{Run, Gen, Plan, Serve, Dump, Look}
 use Rattle.run_frames.specs.Frames.{frame_line}
 use Rattle.run_frames.specs.Served.{serve_talk}
-use Rattle.sound_image.specs.Images.{base}
+use Rattle.image_model.specs.Images.{base}
 use Rattle.space_plan.specs.declared.further.FurtherRows.{FurtherRows}
 use Rattle.space_plan.specs.Lines.{plan_reply}
 use Rattle.run_generated.specs.Summed.{summed}

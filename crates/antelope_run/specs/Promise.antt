@@ -22,7 +22,7 @@ use Rattle.run_words.specs.declared.words.Form.{Form}
 use Rattle.run_words.specs.declared.words.Form.TheVariants.{Run, Gen, Plan, Serve, Dump, Look}
 use Rattle.run_frames.specs.Frames.{frame_line}
 use Rattle.run_frames.specs.Served.{serve_talk}
-use Rattle.sound_image.specs.Images.{IsSound, base}
+use Rattle.image_model.specs.Images.{IsSound, base}
 use Rattle.antelope_run.specs.declared.came.Came.{Came}
 use Rattle.antelope_run.specs.declared.came.Came.TheVariants.{Opened, Refused, Unsaid, Failed}
 use Rattle.antelope_run.specs.Endings.{BrokenOff, LeavesBehind, LeavesImage, OnReader, summed_from}

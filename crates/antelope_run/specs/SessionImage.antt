@@ -2,8 +2,8 @@
 use Rattle.std.specs.Prelude.{◌≡◌, ℕ, List}
 use Rattle.db_model.specs.declared.commands.Command.{Command}
 use Rattle.db_model.specs.Database.{Database, bare}
-use Rattle.sound_image.specs.Images.{IsSound, base}
-use Rattle.sound_image.specs.Lacking.{LacksFor}
+use Rattle.image_model.specs.Images.{IsSound, base}
+use Rattle.image_model.specs.Lacking.{LacksFor}
 
 -- the image is sound, stands for this database without its cursors, and lacks what the session's files lacked
 pub record IsImageOf (database : Database) (Lacks : Command → ℕ → Type 0) (image : List ℕ) : Type 0 where

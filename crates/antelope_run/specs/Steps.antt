@@ -7,7 +7,7 @@ use Rattle.run_input.specs.declared.ending.InputEnding.{InputEnding}
 use Rattle.run_input.specs.declared.ending.InputEnding.TheVariants.{Input, Long, Early}
 use Rattle.run_model.specs.Runs.{CameToLimit, World}
 use Rattle.run_words.specs.declared.words.Form.{Form}
-use Rattle.sound_image.specs.Images.{IsSound}
+use Rattle.image_model.specs.Images.{IsSound}
 use Rattle.antelope_run.specs.declared.came.Came.{Came}
 use Rattle.antelope_run.specs.declared.came.Came.TheVariants.{Opened, Unsaid, Failed}
 use Rattle.antelope_run.specs.Endings.{BrokenOff, LeavesImage}

@@ -21,10 +21,10 @@ use afl_base::{Failed, Flash, Sink, Source};
 use antelope_engine::Session;
 use coffee_volume::{MountError, Volume};
 use flash_views::Handed;
+use image_model::mounted_files_are_the_images;
 use run_entries::write_image_line;
 use run_input::{Ending, InputEnding};
 use run_words::{Form, form};
-use sound_image::mounted_files_are_the_images;
 
 /// Carries out what the words ask for, and answers the status that the program ends with, and the flash.
 ///

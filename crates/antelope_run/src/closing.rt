@@ -9,7 +9,7 @@ ghost use Rattle.antelope_run.specs.SessionImage.{IsImageOf};
 use afl_base::{Files, Flash};
 use antelope_engine::Session;
 use coffee_volume::Volume;
-use sound_image::sound_files_are_a_sound_image;
+use image_model::sound_files_are_a_sound_image;
 
 /// Closes a session and hands back its flash. Unless its files failed, the image is sound and stands for its database.
 pub fn close<F: Flash>(session: Session<Volume<F>>) -> F

@@ -7,7 +7,7 @@ use Rattle.run_repair.specs.Checks.{Checks}
 use Rattle.run_repair.specs.Repairs.{Repairs}
 use Rattle.run_model.specs.Runs.{world}
 use Rattle.run_words.specs.declared.words.Form.{Form}
-use Rattle.sound_image.specs.Images.{IsSound}
+use Rattle.image_model.specs.Images.{IsSound}
 
 -- the statuses of a run over memory, which does not fail; 10 is of a length that no image has
 abbrev pub IsLentStatus : ℕ → Type 0

@@ -3,7 +3,7 @@ ghost use Rattle.afl_sim.specs.Lengths.{IsImageLength};
 ghost use Rattle.antelope_run.specs.Promise.{HasSpace, IsWithinLimit};
 ghost use Rattle.run_model.specs.Runs.{world};
 ghost use Rattle.run_words.specs.Words.{HasFewCommands};
-ghost use Rattle.sound_image.specs.Images.{IsSound};
+ghost use Rattle.image_model.specs.Images.{IsSound};
 ghost use Rattle.lent.specs.Memory.{IsLentStatus, LeavesMemory};
 
 use crate::ended::Ended;

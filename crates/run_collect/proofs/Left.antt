@@ -8,9 +8,9 @@ use Rattle.coffee_space.specs.Collection.{IsCollected, number_taken}
 use Rattle.coffee_space.specs.Cutting.{IsCutCollection}
 use Rattle.reply_text.specs.WroteLess.{WroteLess}
 use Rattle.reply_text.proofs.Pieces.{append_known-nil}
-use Rattle.sound_image.specs.Images.{IsFirstBroken, IsSound, base}
-use Rattle.sound_image.specs.Mending.{ImageMendsTo}
-use Rattle.sound_image.proofs.OneBase.{sound_mends}
+use Rattle.image_model.specs.Images.{IsFirstBroken, IsSound, base}
+use Rattle.image_model.specs.Mending.{ImageMendsTo}
+use Rattle.image_model.proofs.OneBase.{sound_mends}
 use Rattle.run_collect.specs.Collects.{BreaksOff, Collected, Collects, Failed, IsCollectStatus, NumberUnsaid, RefusalUnsaid, Refuses, erased_line}
 use Rattle.run_collect.specs.Comes.{ComesTo, IsSaid}
 use Rattle.run_collect.specs.declared.came.Came.{Came}

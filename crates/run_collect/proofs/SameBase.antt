@@ -4,10 +4,10 @@ use Rattle.coffee_layout.specs.Tiling.{nowhere, units_of}
 use Rattle.coffee_space.specs.Collection.{IsCollected}
 use Rattle.coffee_space.specs.Cutting.{IsCutCollection}
 use Rattle.coffee_volume.specs.Cuts.{MendsToFiles}
-use Rattle.sound_image.specs.Images.{IsSound, base, files_of_image}
-use Rattle.sound_image.specs.Mending.{ImageMendsTo}
-use Rattle.sound_image.proofs.Mounted.{mounted_files}
-use Rattle.sound_image.proofs.OneBase.{sound_base, sound_cut}
+use Rattle.image_model.specs.Images.{IsSound, base, files_of_image}
+use Rattle.image_model.specs.Mending.{ImageMendsTo}
+use Rattle.image_model.proofs.Mounted.{mounted_files}
+use Rattle.image_model.proofs.OneBase.{sound_base, sound_cut}
 use Rattle.stored.specs.Base.{base_of}
 use Rattle.stored.specs.Sound.{IsSoundTable}
 use Rattle.run_collect.proofs.Kept.{CollectionsMend, collected_files, collected_unbroken, cut_files}

@@ -8,8 +8,8 @@ use Rattle.coffee_space.specs.Collection.{IsCollected, number_taken}
 use Rattle.db_model.specs.ReplyText.{line}
 use Rattle.reply_text.specs.WroteLess.{WroteLess}
 use Rattle.run_model.specs.Runs.{image_line}
-use Rattle.sound_image.specs.Images.{IsFirstBroken, IsSound, base}
-use Rattle.sound_image.specs.Mending.{ImageMendsTo}
+use Rattle.image_model.specs.Images.{IsFirstBroken, IsSound, base}
+use Rattle.image_model.specs.Mending.{ImageMendsTo}
 
 -- how many sectors a collection takes in an image: those that have a page in use and no active page
 abbrev pub sectors_taken : List ℕ → ℕ

@@ -3,7 +3,7 @@ use Rattle.std.specs.Prelude.{◌≡◌, ◌⊎◌, ⊤, ℕ, List, [], Option}
 use Rattle.std.specs.Io.KnownBytes.{append_known}
 use Rattle.reply_text.specs.WroteLess.{WroteLess}
 use Rattle.run_model.specs.Runs.{image_line}
-use Rattle.sound_image.specs.Images.{IsSound}
+use Rattle.image_model.specs.Images.{IsSound}
 use Rattle.run_collect.specs.Collects.{BreaksOff, IsCollectedImage, IsLeftAsItWas, erased_line, sectors_taken}
 use Rattle.run_collect.specs.declared.came.Came.{Came}
 use Rattle.run_collect.specs.declared.came.Came.TheVariants.{Collected, Refused, Failed}

@@ -3,14 +3,14 @@ ghost use Rattle.afl_base.specs.Causes.{Rose};
 ghost use Rattle.run_collect.specs.Collects.{BreaksOff, Collects, IsCollectStatus};
 ghost use Rattle.run_collect.specs.Comes.{BreaksBy, ComesTo};
 ghost use Rattle.run_collect.specs.declared.came.Came.TheVariants.{Failed as FaultOfFlash};
-ghost use Rattle.sound_image.specs.Images.{IsSound};
+ghost use Rattle.image_model.specs.Images.{IsSound};
 
 use crate::came::Came;
 use crate::lines::say;
 use afl_base::{Failed, Flash, Sink};
 use coffee_cuts::torn_collections_mend;
+use image_model::sound_image_breaks_no_rule;
 use run_repair::judge_image;
-use sound_image::sound_image_breaks_no_rule;
 
 /// Erases each sector that has a page in use and none that is active, as a command does that finds no free pages, and
 /// writes `sectors erased N`. The database stays. So as long as free pages are found nothing is to be collected, and a

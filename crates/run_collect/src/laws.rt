@@ -7,8 +7,8 @@ ghost use Rattle.coffee_layout.specs.Files.{files_of};
 ghost use Rattle.coffee_layout.specs.Tiling.{nowhere, units_of};
 ghost use Rattle.coffee_space.specs.Collection.{IsCollected};
 ghost use Rattle.coffee_space.specs.Cutting.{IsCutCollection};
-ghost use Rattle.sound_image.specs.Images.{IsSound, base};
-ghost use Rattle.sound_image.specs.Mending.{ImageMendsTo};
+ghost use Rattle.image_model.specs.Images.{IsSound, base};
+ghost use Rattle.image_model.specs.Mending.{ImageMendsTo};
 
 use coffee_cuts::torn_collections_mend;
 

@@ -21,7 +21,7 @@ use Rattle.run_model.specs.Talk.{Talk, answered, last_database, talk_output}
 use Rattle.run_model.proofs.Beginnings.{begins, head_of, tail_of}
 use Rattle.run_model.proofs.Talks.{output-append}
 use Rattle.run_frames.specs.Served.{serve_talk}
-use Rattle.sound_image.specs.Images.{base}
+use Rattle.image_model.specs.Images.{base}
 
 -- two fronts of one list that have one length are the same
 same_fronts : {X : Type 0} (xs ys us vs : List X) → xs ++ us ≡ ys ++ vs → length xs ≡ length ys → xs ≡ ys

@@ -14,7 +14,7 @@ use Rattle.db_model.specs.Sound.{IsSoundDatabase}
 use Rattle.run_model.specs.Runs.{HasEnough, World, machine_from}
 use Rattle.run_model.specs.Scripts.{script_talk}
 use Rattle.run_model.specs.Talk.{last_database}
-use Rattle.sound_image.specs.Images.{IsSound, base, files_of_image}
+use Rattle.image_model.specs.Images.{IsSound, base, files_of_image}
 use Rattle.space_model.specs.Enough.{enough, most}
 use Rattle.stored.specs.Base.{base_of}
 use Rattle.stored.specs.Sound.{IsSoundTable}

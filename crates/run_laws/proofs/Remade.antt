@@ -10,7 +10,7 @@ use Rattle.dump_model.specs.Packed.{packed}
 use Rattle.dump_model.specs.Script.{script}
 use Rattle.run_laws.specs.Remaking.{Dumps, Remakes, RunsDump}
 use Rattle.run_model.specs.Runs.{World}
-use Rattle.sound_image.specs.Images.{IsSound, base}
+use Rattle.image_model.specs.Images.{IsSound, base}
 
 -- the sink holds the script then
 pub dumped_script : (old new : World) → Dumps old new → new.held ≡ Some (script (base old.image))

@@ -13,9 +13,9 @@ use Rattle.run_input.specs.declared.ending.InputEnding.TheVariants.{Input, Long,
 use Rattle.run_model.specs.Line.{Line}
 use Rattle.run_model.specs.Runs.{AreEntries, CarriedOut, FoundNoSpace, InputBrokenOff, InputCutOff, InputEnded, InputFoundNoSpace, InputTooLong, InputUnsaid, Machine, Refuses, RefusalUnsaid, ReplyUnsaid, SpaceUnsaid, StandsAfter, World, machine_from}
 use Rattle.run_model.specs.Talk.{Talk, talk_output}
-use Rattle.sound_image.specs.Images.{IsFirstBroken, IsSound, base}
-use Rattle.sound_image.specs.Mending.{ImageMendsTo}
-use Rattle.sound_image.proofs.OneBase.{sound_mends}
+use Rattle.image_model.specs.Images.{IsFirstBroken, IsSound, base}
+use Rattle.image_model.specs.Mending.{ImageMendsTo}
+use Rattle.image_model.proofs.OneBase.{sound_mends}
 use Rattle.antelope_run.specs.Endings.{BrokenOff, InputLeaves, LeavesBehind, LeavesImage}
 use Rattle.antelope_run.specs.Promise.{ComesTo, EndsBrokenOff, IsRun, LeftBy, Moment, status_by, status_of}
 use Rattle.antelope_run.specs.declared.came.Came.{Came}

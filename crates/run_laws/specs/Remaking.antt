@@ -8,7 +8,7 @@ use Rattle.db_model.specs.ReplyText.{ok_text}
 use Rattle.dump_model.specs.Packed.{packed}
 use Rattle.dump_model.specs.Script.{script_commands}
 use Rattle.run_model.specs.Runs.{World}
-use Rattle.sound_image.specs.Images.{IsSound, base}
+use Rattle.image_model.specs.Images.{IsSound, base}
 
 -- the image is sound and stands for the packed database, and each command was replied to by `ok`
 pub record Remakes (db : Database) (old new : World) : Type 0 where

@@ -9,8 +9,8 @@ use Rattle.run_repair.specs.Outcomes.{RepairsTo}
 use Rattle.run_model.specs.Line.{Line}
 use Rattle.run_model.specs.Runs.{AreEntries, Machine, World, machine_from}
 use Rattle.run_model.specs.Talk.{Talk}
-use Rattle.sound_image.specs.Images.{base}
-use Rattle.sound_image.specs.Mending.{ImageMendsTo}
+use Rattle.image_model.specs.Images.{base}
+use Rattle.image_model.specs.Mending.{ImageMendsTo}
 
 -- the entry that follows those in front
 pub record Next {E : Type 0} (entries front : List E) : Type 0 where

@@ -20,16 +20,16 @@ ghost use Rattle.run_model.specs.Runs.{InputFoundNoSpace, InputUnsaid, World};
 ghost use Rattle.run_model.specs.Scripts.{script_line, script_talk};
 ghost use Rattle.run_frames.specs.Frames.{frame_line};
 ghost use Rattle.run_frames.specs.Served.{serve_talk};
-ghost use Rattle.sound_image.specs.Images.{IsSound, base};
+ghost use Rattle.image_model.specs.Images.{IsSound, base};
 ghost use Rattle.space_plan.specs.Growth.{KeepsToPlan, commands_of};
 ghost use Rattle.space_plan.specs.Planned.{planned};
 ghost use Rattle.space_plan.specs.Rings.{KeepsToRing, KeepsToSlots};
 
 use dump_model::{packed_databases_have_the_same_script, scripts_make_their_database};
+use image_model::{erased_image_is_sound, sound_image_breaks_no_rule};
 use run_frames::frames_come_in_parts;
 use run_model::{scripts_are_answered_in_order, scripts_come_in_parts};
 use run_repair::cut_images_are_repaired;
-use sound_image::{erased_image_is_sound, sound_image_breaks_no_rule};
 use space_plan::{planned_flash_has_enough, planned_flash_has_enough_for_rings};
 use stored::sound_files_are_a_sound_database;
 

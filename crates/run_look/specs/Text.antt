@@ -15,7 +15,7 @@ use Rattle.db_model.specs.Step.{slots_limit}
 use Rattle.dump_model.specs.Script.{domain_named, domain_text}
 use Rattle.run_look.specs.declared.pages.PageCounts.{PageCounts}
 use Rattle.run_look.specs.Pages.{page_counts}
-use Rattle.sound_image.specs.Images.{base}
+use Rattle.image_model.specs.Images.{base}
 
 -- words and a number after them
 abbrev pub counted_words : List ℕ → ℕ → List ℕ

@@ -11,9 +11,9 @@ use Rattle.db_model.specs.ReplyText.{refusal_text}
 use Rattle.db_model.specs.RunCost.{opening_cost}
 use Rattle.db_model.specs.Step.{Reads, step}
 use Rattle.space_model.specs.Enough.{enough, most}
-use Rattle.sound_image.specs.Images.{IsFirstBroken, IsSound, base}
-use Rattle.sound_image.specs.Lacking.{LacksFor}
-use Rattle.sound_image.specs.Mending.{ImageMendsTo}
+use Rattle.image_model.specs.Images.{IsFirstBroken, IsSound, base}
+use Rattle.image_model.specs.Lacking.{LacksFor}
+use Rattle.image_model.specs.Mending.{ImageMendsTo}
 use Rattle.run_model.specs.Line.{Line}
 use Rattle.run_model.specs.Talk.{AsksCommand, AsksToRead, Talk, talk_costs, last_database, talk_output}
 

@@ -13,10 +13,10 @@ use Rattle.coffee_mend.specs.Mended.{IsMended}
 use Rattle.coffee_volume.specs.Cuts.{MendsToFiles}
 use Rattle.coffee_volume.specs.Mounting.{HasEach, HasOnly, mounted_state}
 use Rattle.db_model.specs.Database.{Database}
-use Rattle.sound_image.specs.Images.{IsFirstBroken, IsSound, base, files_of_image}
-use Rattle.sound_image.specs.Mending.{ImageReadsAs}
-use Rattle.sound_image.proofs.Mounted.{mounted_files}
-use Rattle.sound_image.proofs.OneBase.{one_base, own_files, sound_base, sound_is, table_mends}
+use Rattle.image_model.specs.Images.{IsFirstBroken, IsSound, base, files_of_image}
+use Rattle.image_model.specs.Mending.{ImageReadsAs}
+use Rattle.image_model.proofs.Mounted.{mounted_files}
+use Rattle.image_model.proofs.OneBase.{one_base, own_files, sound_base, sound_is, table_mends}
 use Rattle.stored.specs.Mended.{mended_base}
 use Rattle.stored.specs.Sound.{BreaksFirst, IsSoundTable}
 use Rattle.stored_mend.specs.Mending.{IsPutRight}

@@ -13,9 +13,9 @@ use Rattle.coffee_layout.specs.Units.{pages_of}
 use Rattle.coffee_mend.specs.Mended.{IsMended, IsSoundAs}
 use Rattle.coffee_mend.proofs.Mends.{mended_torn, mended_whole, torn_found}
 use Rattle.coffee_volume.specs.Cuts.{MendsToFiles}
-use Rattle.sound_image.specs.Images.{files_of_image}
-use Rattle.sound_image.proofs.OneBase.{one_cut, one_there, table_mends}
-use Rattle.sound_image.proofs.OneName.{settled_long}
+use Rattle.image_model.specs.Images.{files_of_image}
+use Rattle.image_model.proofs.OneBase.{one_cut, one_there, table_mends}
+use Rattle.image_model.proofs.OneName.{settled_long}
 use Rattle.space_model.specs.FileNames.{catalog_file}
 use Rattle.stored.specs.CutTables.{IsCutTable}
 use Rattle.flash_views.specs.Views.{blanked}

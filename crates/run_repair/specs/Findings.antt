@@ -10,7 +10,7 @@ use Rattle.coffee_find.specs.declared.trouble.UnderWay.{UnderWay}
 use Rattle.coffee_find.specs.declared.trouble.UnderWay.TheVariants.{Erasing}
 use Rattle.coffee_volume.specs.Cuts.{MendsToFiles}
 use Rattle.flash_views.specs.Views.{blanked}
-use Rattle.sound_image.specs.Images.{IsFirstBroken, IsSound, files_of_image}
+use Rattle.image_model.specs.Images.{IsFirstBroken, IsSound, files_of_image}
 use Rattle.space_model.specs.FileNames.{catalog_file, is_there}
 use Rattle.stored.specs.CutTables.{IsCutTable}
 use Rattle.run_repair.specs.Rooms.{FindsRoom}

@@ -3,7 +3,7 @@ use Rattle.std.specs.Prelude.{⊤, ℕ, List}
 use Rattle.afl_base.specs.Files.{Table}
 use Rattle.coffee_layout.specs.Marks.{IsCramped}
 use Rattle.coffee_layout.specs.Tiling.{units_of}
-use Rattle.sound_image.specs.Images.{IsSound, base}
+use Rattle.image_model.specs.Images.{IsSound, base}
 use Rattle.stored.specs.Mended.{mended_base}
 use Rattle.stored_mend.specs.Mending.{IsPutRight}
 use Rattle.run_repair.specs.declared.came.Hindrance.{Hindrance}

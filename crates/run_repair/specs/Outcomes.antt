@@ -3,7 +3,7 @@ use Rattle.std.specs.Prelude.{◌≡◌, ◌⊎◌, ℕ, List}
 use Rattle.coffee_layout.specs.Marks.{IsCramped}
 use Rattle.coffee_layout.specs.Tiling.{units_of}
 use Rattle.db_model.specs.Database.{Database, empty_database}
-use Rattle.sound_image.specs.Images.{IsSound, base}
+use Rattle.image_model.specs.Images.{IsSound, base}
 use Rattle.stored_mend.specs.Mending.{IsPutRight}
 
 -- 0: it is sound, and stands for that database, put right

@@ -7,8 +7,8 @@ use Rattle.db_model.specs.ReplyText.{line, refusal_text}
 use Rattle.db_model.specs.declared.refusals.Refusal.TheVariants as no
 use Rattle.reply_text.specs.WroteLess.{WroteLess}
 use Rattle.run_model.specs.Runs.{image_line}
-use Rattle.sound_image.specs.Images.{IsSound, base, files_of_image}
-use Rattle.sound_image.specs.Mending.{ImageReadsAs}
+use Rattle.image_model.specs.Images.{IsSound, base, files_of_image}
+use Rattle.image_model.specs.Mending.{ImageReadsAs}
 use Rattle.stored.specs.Mended.{mended_base}
 use Rattle.stored_mend.specs.Mending.{IsPutRight}
 use Rattle.stored_mend.specs.Report.{report_text}

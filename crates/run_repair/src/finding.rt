@@ -8,7 +8,7 @@ use crate::surveying::survey_image;
 use afl_base::{Failed, Flash};
 use coffee_find::{Judgement, Trouble, UnderWay, cut_images_mend, judge};
 use coffee_layout::BadImage;
-use sound_image::sound_image_breaks_no_rule;
+use image_model::sound_image_breaks_no_rule;
 
 /// What an image is.
 #[derive(Clone, Copy, PartialEq, Eq, Debug)]

@@ -1,7 +1,7 @@
 ghost use Rattle.std.specs.Prelude.{◌≡◌, IfErr, IfOk, IsTrue, None, OnOk};
 ghost use Rattle.afl_base.specs.Causes.{HasCause};
 ghost use Rattle.afl_base.specs.Keeping.{OnlyReads};
-ghost use Rattle.sound_image.specs.Images.{IsFirstBroken, IsSound};
+ghost use Rattle.image_model.specs.Images.{IsFirstBroken, IsSound};
 ghost use Rattle.stored.specs.Sound.{BreaksFirst, IsSoundTable};
 
 use afl_base::{Failed, Files, Flash};

@@ -7,8 +7,8 @@ ghost use Rattle.coffee_mend.specs.Mended.{IsMended};
 ghost use Rattle.db_model.specs.Database.{Database};
 ghost use Rattle.run_repair.specs.Outcomes.{RepairsTo};
 ghost use Rattle.run_repair.specs.Repairs.{Repairs, database_in};
-ghost use Rattle.sound_image.specs.Images.{IsSound, base};
-ghost use Rattle.sound_image.specs.Mending.{ImageMendsTo, ImageReadsAs};
+ghost use Rattle.image_model.specs.Images.{IsSound, base};
+ghost use Rattle.image_model.specs.Mending.{ImageMendsTo, ImageReadsAs};
 ghost use Rattle.stored_mend.specs.Mending.{IsPutRight};
 
 /// A repair that ended with 0 leaves a sound image, which stands for the very database that the image mended to,

@@ -4,14 +4,14 @@ ghost use Rattle.coffee_layout.specs.Rules.{broken_image};
 ghost use Rattle.coffee_volume.specs.Mounting.{mounted_state};
 ghost use Rattle.run_repair.specs.Mends.{IsHindered, IsRestored};
 ghost use Rattle.run_repair.specs.declared.came.Hindrance.TheVariants.{Failed as FaultOfFlash};
-ghost use Rattle.sound_image.specs.Images.{files_of_image};
+ghost use Rattle.image_model.specs.Images.{files_of_image};
 ghost use Rattle.stored.specs.CutTables.{IsCutTable};
 
 use crate::came::Hindrance;
 use afl_base::{FileError, Files, Flash};
 use coffee_volume::{Unlisted, Volume, list};
 use flash_views::Handed;
-use sound_image::sound_files_are_a_sound_image;
+use image_model::sound_files_are_a_sound_image;
 use stored_mend::{Report, mend_database};
 
 /// Repairs the database of an image whose files are sound.

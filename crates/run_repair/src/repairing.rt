@@ -5,7 +5,7 @@ ghost use Rattle.coffee_mend.specs.Mended.{IsMended};
 ghost use Rattle.run_repair.specs.Findings.{IsLeftByCut};
 ghost use Rattle.run_repair.specs.Mends.{IsHindered};
 ghost use Rattle.run_repair.specs.Repairs.{IsRepairStatus, Leaves, Repairs};
-ghost use Rattle.sound_image.specs.Images.{IsSound};
+ghost use Rattle.image_model.specs.Images.{IsSound};
 ghost use Rattle.run_repair.specs.declared.came.Hindrance.TheVariants.{Failed as FaultOfFlash};
 
 use crate::came::{Came, Hindrance};
@@ -17,7 +17,7 @@ use afl_base::{Flash, Sink};
 use coffee_find::Trouble;
 use coffee_layout::BadImage;
 use coffee_mend::{MendError, mend};
-use sound_image::sound_image_breaks_no_rule;
+use image_model::sound_image_breaks_no_rule;
 use stored_mend::Report;
 
 /// Repairs an image that a power cut left, and answers the status that the program ends with.

@@ -5,7 +5,7 @@ ghost use Rattle.coffee_find.specs.Found.{HasRecord, IsCutBy, IsTroubleInside};
 ghost use Rattle.coffee_layout.specs.Rules.{broken_image};
 ghost use Rattle.run_repair.specs.Findings.{IsSurveyed, erased_sector, settled_image, torn_place};
 ghost use Rattle.run_repair.specs.Surveys.{AreSurveyed};
-ghost use Rattle.sound_image.specs.Images.{files_of_image};
+ghost use Rattle.image_model.specs.Images.{files_of_image};
 
 use crate::room::finds_room;
 use afl_base::{Failed, Files, Flash, SectorId};

@@ -4,10 +4,10 @@ use Rattle.run_input.specs.declared.ending.InputEnding.TheVariants.{Input, Early
 use Rattle.coffee_layout.specs.Rules.{broken_image}
 use Rattle.stored.specs.Base.{base_of}
 use Rattle.stored.specs.Sound.{BreaksFirst, IsSoundTable}
-use Rattle.sound_image.specs.Images.{base, IsSound}
+use Rattle.image_model.specs.Images.{base, IsSound}
 use Rattle.antelope_run.proofs.Behind.{reaches_on, rose_by, rose_when}
 use Rattle.db_model.specs.Between.{IsBetween}
-use Rattle.sound_image.specs.Mending.{ImageMendsTo}
+use Rattle.image_model.specs.Mending.{ImageMendsTo}
 use Rattle.antelope_run.proofs.Leaving.{breaks, breaks_by, broken_opened, leaves, look_tells, tells_alone}
 use Rattle.run_model.specs.Runs.{world}
 use Rattle.antelope_run.proofs.Opened.{mounted_within, opened_within}

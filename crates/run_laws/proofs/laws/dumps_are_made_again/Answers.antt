@@ -1,5 +1,5 @@
 use Rattle.std.proofs.Common.{ap, ◌∙◌}
-use Rattle.sound_image.specs.Images.{base}
+use Rattle.image_model.specs.Images.{base}
 use Rattle.run_laws.proofs.Planned.{sound_base}
 use Rattle.run_laws.proofs.Remade.{made_again, same_dump}
 use Rattle.run_laws.proofs.laws.dumps_are_made_again.Goals as goal

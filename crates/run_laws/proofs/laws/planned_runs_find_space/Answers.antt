@@ -1,6 +1,6 @@
 use Rattle.std.proofs.Common.{◌/◌, length}
 use Rattle.db_model.specs.Script.{commands}
-use Rattle.sound_image.specs.Images.{base}
+use Rattle.image_model.specs.Images.{base}
 use Rattle.run_laws.proofs.Planned.{enough_before, has_space, sound_base}
 use Rattle.run_laws.proofs.laws.planned_runs_find_space.Goals as goal
 

@@ -7,8 +7,8 @@ ghost use Rattle.afl_base.specs.Files.{AreDistinct};
 ghost use Rattle.db_model.specs.declared.commands.Command.{Command};
 ghost use Rattle.session_model.specs.Wanted.{WantsOver};
 ghost use Rattle.space_model.specs.Enough.{most};
-ghost use Rattle.sound_image.specs.Images.{IsSound, base};
-ghost use Rattle.sound_image.specs.Lacking.{LacksFor};
+ghost use Rattle.image_model.specs.Images.{IsSound, base};
+ghost use Rattle.image_model.specs.Lacking.{LacksFor};
 ghost use Rattle.stored.specs.Base.{base_of};
 ghost use Rattle.stored.specs.Sound.{IsSoundTable};
 

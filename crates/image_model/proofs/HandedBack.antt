@@ -19,18 +19,18 @@ use Rattle.stored.proofs.SameBase.{base_same, sound_same}
 use Rattle.stored.specs.Base.{base_of}
 use Rattle.stored.specs.Same.{HaveSameFiles}
 use Rattle.stored.specs.Sound.{IsSoundTable}
-use Rattle.sound_image.proofs.Mounted.{mounted_files}
-use Rattle.sound_image.proofs.SameFiles.{distinct_image}
+use Rattle.image_model.proofs.Mounted.{mounted_files}
+use Rattle.image_model.proofs.SameFiles.{distinct_image}
 use Rattle.coffee_volume.specs.Asking.{AsksOf}
 use Rattle.db_model.specs.declared.commands.Command.{Command}
 use Rattle.db_model.specs.Database.{Database}
 use Rattle.session_model.specs.Wanted.{WantsOver, room_in}
 use Rattle.space_model.specs.FileNames.{asks_in, size_in}
 use Rattle.space_model.specs.Wants.{Wants}
-use Rattle.sound_image.proofs.WantedThere.{room_stays, size_stays}
+use Rattle.image_model.proofs.WantedThere.{room_stays, size_stays}
 use Rattle.space_model.proofs.StillWanted.{wanted_still}
-use Rattle.sound_image.specs.Images.{IsSound, base}
-use Rattle.sound_image.specs.Lacking.{WantsOf}
+use Rattle.image_model.specs.Images.{IsSound, base}
+use Rattle.image_model.specs.Lacking.{WantsOf}
 
 -- a file of a name is live, and has it
 named_there : (o : Option File) (name : List ℕ) → option_map (λ (f : File). f.name) o ≡ Some name → IsTrue (is_some o) × ((unwrap_or o no_file).name ≡ name)

@@ -6,7 +6,7 @@ use Rattle.coffee_layout.specs.Tiling.{units_of}
 use Rattle.coffee_layout.specs.declared.file.FileAt.{FileAt}
 use Rattle.coffee_volume.specs.Mounting.{mounted_state}
 use Rattle.coffee_volume.specs.Volumes.{files_seen, roomless}
-use Rattle.sound_image.specs.Images.{file_from, files_of_image}
+use Rattle.image_model.specs.Images.{file_from, files_of_image}
 
 none_seen : (image : List ℕ) (n : ℕ) → files_seen true image (replicate n None) ≡ replicate n None
 none_seen image zero = refl

@@ -8,7 +8,7 @@ use Rattle.session_model.specs.Wanted.{room_in}
 use Rattle.space_model.specs.Enough.{enough, most}
 use Rattle.space_model.specs.FileNames.{size_in}
 use Rattle.space_model.specs.Wants.{Wants}
-use Rattle.sound_image.specs.Images.{base, files_of_image}
+use Rattle.image_model.specs.Images.{base, files_of_image}
 
 -- a command needs an extent of n pages, as the files of the image stand
 abbrev pub WantsOf : List ℕ → Command → ℕ → Type 0

@@ -5,7 +5,7 @@ use Rattle.session_model.proofs.Wanted.{room_bytes}
 use Rattle.space_model.specs.FileNames.{catalog_file}
 use Rattle.space_model.specs.Wants.{IsOfSixPages}
 use Rattle.stored.specs.Files.{HasCatalog}
-use Rattle.sound_image.proofs.laws.little_is_wanted.Goals as goal
+use Rattle.image_model.proofs.laws.little_is_wanted.Goals as goal
 
 -- a file of the catalog's name is the catalog
 of_catalog : (files : Table) → AreDistinct files → HasCatalog files ⊎ IsUnnamed files catalog_file → (id : ℕ) → IsNamed files id catalog_file → IsOfSixPages files id

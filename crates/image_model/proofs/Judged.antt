@@ -1,7 +1,7 @@
 -- A sound image has no first broken rule.
 use Rattle.std.proofs.Common.{ℕ, inl, inr, List}
 use Rattle.stored.proofs.Crowded.{unbroken_table}
-use Rattle.sound_image.specs.Images.{IsFirstBroken, IsSound, files_of_image}
+use Rattle.image_model.specs.Images.{IsFirstBroken, IsSound, files_of_image}
 use Rattle.padded.proofs.Facts.{none_is_some}
 
 pub sound_unbroken : (image : List ℕ) (rule place : ℕ) → IsSound image → IsFirstBroken image rule place → ⊥

@@ -25,12 +25,12 @@ use Rattle.stored.specs.Same.{HasLike, HaveSameFiles}
 use Rattle.stored.proofs.MendedSound.{mended_of_sound}
 use Rattle.stored.proofs.MendedTables.{mended_same}
 use Rattle.stored.proofs.SoundCut.{sound_table_is_cut}
-use Rattle.sound_image.specs.Images.{IsSound, base, file_from, files_of_image}
-use Rattle.sound_image.specs.Mending.{ImageMendsTo, ImageReadsAs}
-use Rattle.sound_image.proofs.Mounted.{mounted_files}
-use Rattle.sound_image.proofs.OneName.{one_file}
+use Rattle.image_model.specs.Images.{IsSound, base, file_from, files_of_image}
+use Rattle.image_model.specs.Mending.{ImageMendsTo, ImageReadsAs}
+use Rattle.image_model.proofs.Mounted.{mounted_files}
+use Rattle.image_model.proofs.OneName.{one_file}
 use Rattle.stored.proofs.SameCut.{same_cut}
-use Rattle.sound_image.proofs.SameFiles.{live_there}
+use Rattle.image_model.proofs.SameFiles.{live_there}
 
 -- ---- files by name
 

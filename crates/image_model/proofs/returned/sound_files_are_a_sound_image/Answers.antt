@@ -1,9 +1,9 @@
 use Rattle.std.proofs.Common.{◌≤◌, subst, sym}
 use Rattle.db_model.specs.Database.{Database}
 use Rattle.space_model.specs.Enough.{most}
-use Rattle.sound_image.proofs.HandedBack.{base_back, lacks_back, small_back, sound_back}
-use Rattle.sound_image.proofs.SameFiles.{same_files}
-use Rattle.sound_image.proofs.returned.sound_files_are_a_sound_image.Goals as goal
+use Rattle.image_model.proofs.HandedBack.{base_back, lacks_back, small_back, sound_back}
+use Rattle.image_model.proofs.SameFiles.{same_files}
+use Rattle.image_model.proofs.returned.sound_files_are_a_sound_image.Goals as goal
 
 pub returns-clause-sound : goal.returns-clause-sound
 returns-clause-sound g c =

@@ -1,5 +1,5 @@
-use Rattle.sound_image.proofs.OneBase.{one_base, sound_is, sound_mends, table_mends}
-use Rattle.sound_image.proofs.laws.images_mend_to_one_database.Goals as goal
+use Rattle.image_model.proofs.OneBase.{one_base, sound_is, sound_mends, table_mends}
+use Rattle.image_model.proofs.laws.images_mend_to_one_database.Goals as goal
 
 pub returns-clause-one : goal.returns-clause-one
 returns-clause-one c = one_base

@@ -11,7 +11,7 @@ use Rattle.coffee_layout.specs.Units.{pages_of, unit_at, unit_of}
 use Rattle.padded.specs.Zeros.{is_zeros}
 use Rattle.afl_base.specs.Files.{Table}
 use Rattle.db_model.specs.Database.{empty_database}
-use Rattle.sound_image.specs.Images.{IsSound, base, files_of_image}
+use Rattle.image_model.specs.Images.{IsSound, base, files_of_image}
 use Rattle.catalog.specs.Rules.{breaks_files, breaks_index, breaks_relation, broken_catalog, first, first_broken}
 use Rattle.stored.specs.Base.{base_of}
 use Rattle.stored.specs.Sound.{IsSoundTable}
