@@ -17,10 +17,10 @@ pub record Lacks (new : List ℕ) : Type 0 where
   pub cramped : IsCramped (units_of new) need
 
 -- 6: it is as it was, and the database is the empty one
-pub record RefusesNothing (db : Database) (old new : List ℕ) : Type 0 where
+pub record RefusesEmpty (db : Database) (old new : List ℕ) : Type 0 where
   pub same : new ≡ old
   pub empty : db ≡ empty_database
 
 abbrev pub RepairsTo : (status : ℕ) → Database → (old new : List ℕ) → Type 0
 RepairsTo status db old new =
-    ((status ≡ 0) × Restores db new) ⊎ (((status ≡ 3) × Lacks new) ⊎ ((status ≡ 6) × RefusesNothing db old new))
+    ((status ≡ 0) × Restores db new) ⊎ (((status ≡ 3) × Lacks new) ⊎ ((status ≡ 6) × RefusesEmpty db old new))
