@@ -1,27 +1,31 @@
 -- A file that is put together with its log: a new extent, the copy of the file into it, and three flags.
-use Rattle.std.proofs.Common.{length, map, true, ◌++◌, replicate, ⊎_elim, ◌≡◌, ◌≢◌, ℕ, ◌+◌, ◌-◌, ◌*◌, ◌≤◌, ◌<◌, ◌==◌, List, Some, None, bit_or, refl, ap, sym, subst, ◌∙◌, arith}
+use Rattle.std.proofs.Common.{length, map, true, false, suc, inl, inr, [], ◌∷◌, ◌++◌, replicate, ⊎_elim, ◌≡◌, ◌≢◌, ℕ, ◌+◌, ◌-◌, ◌*◌, ◌≤◌, ◌<◌, ◌==◌, List, Some, None, bit_or, refl, ap, sym, subst, ◌∙◌, arith}
 use Rattle.afl_base.specs.declared.ids.PageId.{PageId}
 use Rattle.coffee_header.specs.Headers.{is_flags}
 use Rattle.coffee_header.specs.declared.header.Header.{Header}
 use Rattle.coffee_layout.specs.FileBytes.{file_byte}
-use Rattle.coffee_layout.specs.Files.{listed}
+use Rattle.coffee_layout.specs.Files.{Placed, entry_of, extents, files_in, is_log, listed, logs_in}
 use Rattle.coffee_layout.specs.Rules.{broken_image}
 use Rattle.coffee_layout.specs.Tiling.{IsTiled, nowhere, units_of}
 use Rattle.coffee_layout.specs.Units.{pages_of}
 use Rattle.coffee_layout.specs.Walks.{has_few}
 use Rattle.coffee_layout.specs.declared.file.FileAt.{FileAt}
 use Rattle.coffee_layout.specs.declared.unit.Unit.TheVariants.{Extent}
+use Rattle.coffee_cuts.specs.Cuts.{IsActiveAt}
 use Rattle.coffee_merge.specs.Begun.{unit_begun}
+use Rattle.coffee_merge.proofs.Begun.{active_begun}
+use Rattle.coffee_merge.proofs.SoundHolders.{entry_among, entry_is, log_holder, placed}
+use Rattle.coffee_merge.proofs.SoundUnits.{Among, among_filter, begun_extent}
 use Rattle.coffee_merge.specs.Flags.{flagged, obsoleted}
-use Rattle.coffee_merge.specs.Holding.{CommitsExtent, Entries, HoldsTable, IsIn, extent_of, file_flags, file_header, log_header, log_number}
+use Rattle.coffee_merge.specs.Holding.{CommitsExtent, Entries, HoldsTable, IsIn, extent_of, file_flags, file_header, has_shape, log_header, log_number}
 use Rattle.coffee_merge.specs.Outcomes.{BeginsFile, CopiesFile}
 use Rattle.coffee_merge.proofs.Commits.{replaced_file, replaced_log, replaces, valid}
 use Rattle.coffee_merge.proofs.Marked.{flagged_extent}
 use Rattle.coffee_merge.proofs.Holdings.{is_in_set}
 use Rattle.coffee_merge.proofs.MovedFiles.{held_listed, moves_files}
 use Rattle.coffee_merge.proofs.SoundTables.{sound_few, sound_held, sound_sparing}
-use Rattle.padded.proofs.Facts.{some_same}
-use Rattle.std.specs.List.{Contains}
+use Rattle.padded.proofs.Facts.{eq_true, some_same}
+use Rattle.std.specs.List.{All, Contains}
 use Rattle.std.specs.Prelude.{set}
 use Rattle.std.proofs.lemmas.List.{length-append, length-map, length-set}
 use Rattle.afl_base.specs.FileErrors.{OnSpace}
@@ -130,3 +134,45 @@ lacks_room old new file log need sound whole there logged leaves pages =
       };
       cramped = l.cramped;
     }
+
+-- ---- which file has a log
+
+contains_made : (make : Placed → FileAt) (fs : List Placed) (f : Placed) → Among f fs → Contains (map make fs) (make f)
+contains_made make [] f there = absurd there
+contains_made make (x ∷ xs) f (inl same) = (0, omega arith, ap make same)
+contains_made make (x ∷ xs) f (inr there) = let r = contains_made make xs f there in (suc r.0, omega (arith, r.1), r.2)
+
+-- a file among some has the log at a page, and the pages of its kind
+pub record HasLogOf (files : List FileAt) (log : PageId) : Type 0 where
+  pub file : FileAt
+  pub there : Contains files file
+  pub logged : file.log ≡ Some log
+  pub shape : has_shape file.kind file.pages ≡ true
+
+-- of a sound image each active log is that of a file that is listed
+pub log_listed : (image : List ℕ) (log : PageId) → broken_image image ≡ None → 256 * pages_of image ≡ length image → IsActiveAt image log.0 19 → HasLogOf (listed image) log
+log_listed image log sound whole a =
+    let holds : HoldsTable image (map Some (listed image) ++ replicate 0 None) None = sound_held image 0 sound whole in
+    let g : Placed = record { page = log.0; header = a.header } in
+    let begun = (active_begun (units_of image) log.0 a.header a.there).0 in
+    let there : Among (record { page = log.0; header = a.header }) (logs_in (units_of image)) =
+    among_filter is_log g (extents 0 (units_of image)) (begun_extent (units_of image) 0 log.0 a.header begun) (eq_true a.header.flags 19 a.flags_are) in
+    let by = log_holder image (map Some (listed image) ++ replicate 0 None) g holds there in
+    let page : by.log.0 ≡ log.0 = sym (ap (λ (p : Placed). p.page) by.is) in
+    let same : by.log ≡ log = ap (λ n. record { 0 = n }) page in
+    record {
+      file = by.entry;
+      there = subst (Contains (listed image)) (entry_is image by.entry (holds.stored by.place by.entry by.is_in))
+          (contains_made (entry_of image) (files_in (units_of image)) (placed by.entry) (entry_among image (map Some (listed image) ++ replicate 0 None) by.place by.entry holds by.is_in));
+      logged = by.logged ∙ ap Some same;
+      shape = (holds.stored by.place by.entry by.is_in).shape;
+    }
+
+-- so it is found
+pub log_found : (files : List FileAt) (log : PageId) → HasLogOf files log → All (λ e. e.log ≡ Some log → has_shape e.kind e.pages ≡ false) files → ⊥
+log_found files log l none =
+    let at = l.there in
+    let misses : l.file.log ≡ Some log → has_shape l.file.kind l.file.pages ≡ false =
+    subst (λ (e : FileAt). e.log ≡ Some log → has_shape e.kind e.pages ≡ false) at.2 (none at.0 l.file at.1) in
+    let no : true ≡ false = sym l.shape ∙ misses l.logged in
+    cc

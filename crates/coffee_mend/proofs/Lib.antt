@@ -1,6 +1,6 @@
+mod Beside
 mod Erasures
 mod Joins
 mod Mends
 mod Settlings
 mod StandingLogs
-mod Unblanked

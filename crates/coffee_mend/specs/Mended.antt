@@ -1,5 +1,5 @@
 -- What mending makes of an image, and why it could not.
-use Rattle.std.specs.Prelude.{◌≡◌, ⊤, ℕ, ◌≤◌, List, length, None, Result, Ok, Err, IfErr}
+use Rattle.std.specs.Prelude.{◌≡◌, ⊤, ℕ, ◌≤◌, List, length, None, Result, IfErr}
 use Rattle.std.specs.List.{Contains}
 use Rattle.afl_base.specs.Causes.{Rose}
 use Rattle.coffee_cuts.specs.Cuts.{MendsTo}
@@ -67,16 +67,9 @@ OnLacking (Space need) P = P need
 OnLacking Failed P = ⊤
 OnLacking Unsettled P = ⊤
 
--- P, unless the answer is that the image is not what was found
-abbrev pub UnlessUnsettled : {T : Type 0} → Result T MendError → Type 0 → Type 0
-UnlessUnsettled (Ok x) P = P
-UnlessUnsettled (Err (Space need)) P = P
-UnlessUnsettled (Err Failed) P = P
-UnlessUnsettled (Err Unsettled) P = ⊤
-
--- the count of faults has not fallen, unless the image is not what was found, and the flash failed only where it rose
+-- the count of faults has not fallen, and the flash failed only where it rose
 pub record HasMendCause {T : Type 0} (before now : ℕ) (result : Result T MendError) : Type 0 where
-  pub later : UnlessUnsettled result (before ≤ now)
+  pub later : before ≤ now
   pub failed : IfErr result (λ e. OnFlashFailed e (Rose before now))
 
 -- a call that mends a flash: it has the size that it had, and borrows what it borrowed

@@ -1,7 +1,8 @@
-ghost use Rattle.std.specs.Prelude.{◌≡◌, ◌≢◌, ◌+◌, ◌*◌, ◌≤◌, ℕ, true, None, Some, length, IsTrue, IfOk, IfSome, OnOk};
+ghost use Rattle.std.specs.Prelude.{◌≡◌, ◌≢◌, ◌+◌, ◌*◌, ◌≤◌, ℕ, true, false, None, Some, length, IsTrue, IfOk, IfSome, OnOk};
 ghost use Rattle.std.specs.List.{All, Contains};
 ghost use Rattle.afl_base.specs.Keeping.{ChangesFlashOrLacks, Programs};
 ghost use Rattle.afl_base.specs.FileErrors.{OnSpace};
+ghost use Rattle.coffee_cuts.specs.Cuts.{IsActiveAt};
 ghost use Rattle.coffee_find.specs.Found.{HasPage};
 ghost use Rattle.coffee_layout.specs.Files.{FitsIn};
 ghost use Rattle.coffee_layout.specs.Rules.{broken_image};
@@ -16,12 +17,14 @@ use afl_base::{Failed, FileError, Flash, Kind, PageId};
 use coffee_layout::{FileAt, Table, check, is_doubling};
 use coffee_merge::{begin_extent, copy_file};
 
-/// Puts the file of a log together with it, in a new extent. `false` comes where the image is not sound,
-/// or no file has the log.
+/// Puts the file of a log together with it, in a new extent. `false` comes only where the image is not
+/// sound, or the log is not active in it.
 pub(crate) fn join_log<F: Flash>(flash: &mut F, log: PageId) -> Result<bool, FileError>
     requires log { HasPage (length (F.image flash.old)) log.0 }
     ensures joined { IsTrue F.tells → broken_image (F.image flash.old) ≡ None
         → IfOk result (λ done. IsTrue done → IsJoined (F.image flash.old) (F.image flash.new) log.0) }
+    ensures known { IsTrue F.tells → broken_image (F.image flash.old) ≡ None
+        → IsActiveAt (F.image flash.old) log.0 19 → IfOk result (λ done. done ≡ true) }
     ensures left { IsTrue F.tells → broken_image (F.image flash.old) ≡ None
         → OnSpace result (λ need. LacksRoom (F.image flash.old) (F.image flash.new) log.0 need) }
     ensures frame { ChangesFlashOrLacks F.image F.lent F.reads F.faults flash.old flash.new result }
@@ -43,6 +46,8 @@ fn file_of_log(table: &[FileAt], log: PageId) -> Option<FileAt>
     ensures listed { IfSome result (λ e. Contains table.now e) }
     ensures log { IfSome result (λ e. e.log ≡ Some log) }
     ensures shape { IfSome result (λ e. has_shape e.kind e.pages ≡ true) }
+    ensures none { result ≡ None
+        → All (λ e. e.log ≡ Some log → has_shape e.kind e.pages ≡ false) table.now }
 {
     for file in table {
         if file.log == Some(log) && has_shape(file) {

@@ -1,15 +1,16 @@
-ghost use Rattle.std.specs.Prelude.{◌≡◌, ℕ, ◌+◌, ◌*◌, ◌≤◌, Err, None, Ok, Some, false, true, length, IsTrue, IfErr, OnOk};
+ghost use Rattle.std.specs.Prelude.{◌≡◌, ◌≢◌, ℕ, ◌+◌, ◌*◌, ◌≤◌, Err, None, Ok, Some, false, true, length, IsTrue, IfErr, OnOk};
 ghost use Rattle.afl_base.specs.Image.{zeros_at};
 ghost use Rattle.afl_base.specs.declared.kind.FileError.TheVariants.{Failed as FaultOfFile, Space as LackOfSpace};
 ghost use Rattle.coffee_find.specs.Found.{HasRecord, IsCutBy, IsTornAt, IsTroubleInside, meant};
-ghost use Rattle.coffee_mend.specs.Mended.{IsCrowded, IsFailure, IsMended, IsSoundAs, IsTornAs, MendsFlash, OnFlashFailed, OnLacking, UnlessUnsettled};
+ghost use Rattle.coffee_mend.specs.Mended.{IsCrowded, IsFailure, IsMended, IsSoundAs, IsTornAs, MendsFlash, OnFlashFailed, OnLacking};
+ghost use Rattle.coffee_mend.specs.declared.mending.MendError.TheVariants.{Unsettled as StrangeImage};
 ghost use Rattle.coffee_mend.specs.Settling.{IsCutSettling};
 
 use crate::joining::join_log;
 use crate::settling::settle;
 use afl_base::{FileError, Flash};
 use coffee_find::{TornRecord, Trouble};
-use flash_views::{Blanked, Handed};
+use flash_views::{Handed, Shadowed};
 
 /// Why an image was not mended.
 #[derive(Clone, Copy, PartialEq, Eq, Debug)]
@@ -18,7 +19,8 @@ pub enum MendError {
     Space { need: u16 },
     /// The flash failed, and its count of faults rose.
     Failed,
-    /// The image is not what was found in it, as on a flash that answers otherwise at each read.
+    /// The image is not what was found in it, as on a flash that answers otherwise at each read. It never
+    /// comes where the flash tells its bytes.
     Unsettled,
 }
 
@@ -31,6 +33,8 @@ pub fn mend<F: Flash>(flash: &mut F, trouble: &Trouble) -> Result<(), MendError>
         → OnOk result (IsMended (F.image flash.old) (F.image flash.new)) }
     ensures space { IsTrue F.tells → IsCutBy (F.image flash.old) trouble.now
         → IfErr result (λ e. OnLacking e (λ need. IsCrowded (F.image flash.old) (F.image flash.new) need)) }
+    ensures settles { IsTrue F.tells → IsCutBy (F.image flash.old) trouble.now
+        → result ≢ Err StrangeImage }
     ensures failures { trouble.now.torn ≡ None → IfErr result (λ e. IsFailure e) }
     ensures cut { IsTrue F.tells → IsTrue F.cuts → trouble.now.torn ≡ None
         → IfErr result (λ e. OnFlashFailed e
@@ -55,41 +59,41 @@ fn join_torn<F: Flash>(flash: &mut F, torn: &TornRecord) -> Result<(), MendError
     ensures space { IsTrue F.tells → IsTornAt (F.image flash.old) torn.now.log.0 torn.now.place
         → IfErr result (λ e. OnLacking e (λ need.
         IsTornAs (F.image flash.old) (F.image flash.new) torn.now.log.0 torn.now.place need)) }
+    ensures settles { IsTrue F.tells → IsTornAt (F.image flash.old) torn.now.log.0 torn.now.place
+        → result ≢ Err StrangeImage }
     ensures frame { MendsFlash F.image F.lent F.reads F.faults flash.old flash.new result }
 {
     let mut joined = Err(MendError::Unsettled);
-    let _handed = join_blanked(Handed { flash }, torn, &mut joined);
+    let _handed = join_beside(Handed { flash }, torn, &mut joined);
     joined
 }
 
-// The same over a flash of which the record reads as zeros.
-fn join_blanked<F: Flash>(flash: F, torn: &TornRecord, joined: &mut Result<(), MendError>) -> F
+// The same over a flash beside which the record stands, as zeros at first.
+fn join_beside<F: Flash>(flash: F, torn: &TornRecord, joined: &mut Result<(), MendError>) -> F
     requires torn { HasRecord (length (F.image flash)) (Some torn.now) }
     ensures joined { IsTrue F.tells → IsTornAt (F.image flash) torn.now.log.0 torn.now.place
         → OnOk joined.new (IsSoundAs (zeros_at (F.image flash) torn.now.place 128) (F.image result)) }
     ensures space { IsTrue F.tells → IsTornAt (F.image flash) torn.now.log.0 torn.now.place
         → IfErr joined.new (λ e. OnLacking e (λ need.
         IsTornAs (F.image flash) (F.image result) torn.now.log.0 torn.now.place need)) }
+    ensures settles { IsTrue F.tells → IsTornAt (F.image flash) torn.now.log.0 torn.now.place
+        → joined.new ≢ Err StrangeImage }
     ensures frame { MendsFlash F.image F.lent F.reads F.faults flash result joined.new }
 {
     flash.sectors();
-    let mut blanked = Blanked::new(flash, torn.place);
-    let done = join_log(&mut blanked, torn.log);
-    *joined = came_of(done, blanked.has_refused());
-    blanked.into_flash()
+    let mut shadowed = Shadowed::new(flash, torn.place);
+    let done = join_log(&mut shadowed, torn.log);
+    *joined = came_of(done);
+    shadowed.into_flash()
 }
 
-// What joining came to. A write that was refused, or a file that is not found, shows that the image is not
-// what was found.
-fn came_of(done: Result<bool, FileError>, refused: bool) -> Result<(), MendError>
+// What joining came to. A file that is not found shows that the image is not what was found.
+fn came_of(done: Result<bool, FileError>) -> Result<(), MendError>
     ensures joined { OnOk result (done ≡ Ok true) }
     ensures lacking { IfErr result (λ e. OnLacking e (λ need. done ≡ Err (LackOfSpace need))) }
     ensures failed { IfErr result (λ e. OnFlashFailed e (done ≡ Err FaultOfFile)) }
-    ensures granted { UnlessUnsettled result (refused ≡ false) }
+    ensures strange { result ≡ Err StrangeImage → done ≡ Ok false }
 {
-    if refused {
-        return Err(MendError::Unsettled);
-    }
     match done {
         Ok(true) => Ok(()),
         Ok(false) => Err(MendError::Unsettled),

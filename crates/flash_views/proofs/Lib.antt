@@ -1,2 +1,2 @@
-pub mod Blanks
 pub mod Overlays
+pub mod Shadows

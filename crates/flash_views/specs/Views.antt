@@ -1,5 +1,5 @@
 -- What a flash over another one reads, and what is seen of it.
-use Rattle.std.specs.Prelude.{◌≡◌, ℕ, ◌+◌, ◌-◌, ◌*◌, ◌^◌, ◌≤◌, ◌<◌, min, List, [], ◌∷◌, length, Option, None, Some, Bool, ◌&&◌, nat_lt, slice_index, slice_set, ◌++◌}
+use Rattle.std.specs.Prelude.{◌≡◌, ℕ, ◌+◌, ◌-◌, ◌*◌, ◌^◌, ◌≤◌, ◌<◌, ◌⊎◌, min, List, [], ◌∷◌, length, Option, None, Some, slice_index, slice_set, ◌++◌}
 use Rattle.afl_base.specs.Image.{or_at, zeros_at}
 use Rattle.afl_base.specs.declared.ids.PageId.{PageId}
 use Rattle.afl_base.specs.declared.ids.SectorId.{SectorId}
@@ -74,11 +74,22 @@ pub record IsSameFlash {F : Type 0} (holds borrows : F → List ℕ) (flash othe
   pub image : holds other ≡ holds flash
   pub lent : borrows other ≡ borrows flash
 
--- a flash, where the 128 bytes begin that read as zeros, and how many writes were refused
-pub record FlashWithBlank (F : Type 0) : Type 0 where
+-- a flash, and the 128 bytes beside it, which stand for those from a place on
+pub record FlashWithShadow (F : Type 0) : Type 0 where
   pub inner : F
   pub place : ℕ
-  pub refused : ℕ
+  pub bytes : List ℕ
+
+-- 128 bytes stand for those from a place on, in a flash of this many bytes
+pub record IsShadow (size place : ℕ) (bytes : List ℕ) : Type 0 where
+  pub inside : place + 128 ≤ size
+  pub long : length bytes ≡ 128
+
+-- an image is another one, but for the 128 bytes from a place on
+pub record IsSameBut (image other : List ℕ) (place : ℕ) : Type 0 where
+  pub inside : place + 128 ≤ length image
+  pub size : length other ≡ length image
+  pub others : (k : ℕ) → (k < place) ⊎ (place + 128 ≤ k) → slice_index other k ≡ slice_index image k
 
 -- one refusal more, up to the last number of a u64
 abbrev pub refusals_after : ℕ → ℕ
@@ -87,7 +98,3 @@ refusals_after refused = min (refused + 1) (2 ^ 64 - 1)
 -- the refusals, and the faults of the flash inside
 abbrev pub faults_in_all : (refused faults : ℕ) → ℕ
 faults_in_all refused faults = refused + faults
-
--- n bytes from a place on have one of 128 bytes
-abbrev pub meets_blank : (blank place n : ℕ) → Bool
-meets_blank blank place n = nat_lt place (blank + 128) && nat_lt blank (place + n)

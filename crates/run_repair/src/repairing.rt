@@ -92,7 +92,7 @@ fn mend_files<F: Flash>(flash: &mut F, trouble: &Trouble, bad: BadImage) -> Resu
         → IfErr result (IsHindered (F.image flash.new)) }
     ensures size { length (F.image flash.new) ≡ length (F.image flash.old) }
     ensures lent { F.lent flash.new ≡ F.lent flash.old }
-    ensures later { OnOk result (F.faults flash.old ≤ F.faults flash.new) }
+    ensures later { F.faults flash.old ≤ F.faults flash.new }
     ensures cause { result ≡ Err FaultOfFlash → Rose (F.faults flash.old) (F.faults flash.new) }
 {
     match mend(flash, trouble) {

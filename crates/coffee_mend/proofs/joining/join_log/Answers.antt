@@ -3,7 +3,7 @@ use Rattle.std.specs.List.{Contains}
 use Rattle.coffee_layout.specs.Files.{listed}
 use Rattle.coffee_layout.specs.Rules.{broken_image}
 use Rattle.coffee_mend.specs.Joined.{IsJoined, LacksRoom}
-use Rattle.coffee_mend.proofs.Joins.{joined_log, lacks_room, space_on}
+use Rattle.coffee_mend.proofs.Joins.{HasLogOf, joined_log, lacks_room, log_found, log_listed, space_on}
 use Rattle.std.proofs.lemmas.Result.{err_from_is_err_and}
 use Rattle.std.specs.Prelude.{Err, None}
 use Rattle.coffee_merge.specs.Holding.{Entries, HoldsTable}
@@ -37,3 +37,11 @@ returns-in_err-join_file-clause-left g c = λ told sound.
     (λ need leaves. subst (λ i. LacksRoom i new c.args.log.0 need) same
     (lacks_room mid new c.in-Some.file c.args.log need (ap broken_image same ∙ sound) (omega (arith, ap length same, c.sectors.ensures.size)) there c.in-Some.ensures.log leaves.0 leaves.1))
     (both_spaces c.join_file.result (λ need. (table : Entries) → HoldsTable mid table None → LeavesAll mid new table need) (λ need. need ≡ c.in-Some.file.pages) (c.join_file.ensures.left told) c.join_file.ensures.need)
+
+pub returns-in_default-file_of_log-clause-known : goal.returns-in_default-file_of_log-clause-known
+returns-in_default-file_of_log-clause-known g c = λ told sound active.
+    let old = g.F.Flash.image c.args.flash.now in
+    let judged = rw c.in-Ok.is at (c.in_ok-check.ensures.judged told) in
+    let listed_there : HasLogOf c.deref.result.now c.args.log =
+    subst (λ files. HasLogOf files c.args.log) (sym (c.deref.ensures.0 ∙ judged.1)) (log_listed old c.args.log sound (omega (arith, c.sectors.ensures.size)) active) in
+    absurd (log_found c.deref.result.now c.args.log listed_there (c.file_of_log.ensures.none c.in_default-file_of_log.is))
