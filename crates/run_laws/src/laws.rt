@@ -26,16 +26,10 @@ ghost use Rattle.space_plan.specs.Planned.{planned};
 ghost use Rattle.space_plan.specs.Rings.{KeepsToRing, KeepsToSlots};
 
 use dump_model::{packed_databases_have_the_same_script, scripts_make_their_database};
-<<<<<<< HEAD
 use image_model::{erased_image_is_sound, sound_image_breaks_no_rule};
 use run_frames::frames_come_in_parts;
 use run_model::{scripts_are_answered_in_order, scripts_come_in_parts};
 use run_repair::cut_images_are_repaired;
-=======
-use image_model::erased_image_is_sound;
-use run_frames::frames_come_in_parts;
-use run_model::{scripts_are_answered_in_order, scripts_come_in_parts};
->>>>>>> 654202dd279969172ff05722aac35b84610a45c6
 use space_plan::{planned_flash_has_enough, planned_flash_has_enough_for_rings};
 use stored::sound_files_are_a_sound_database;
 

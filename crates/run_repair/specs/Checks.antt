@@ -5,11 +5,7 @@ use Rattle.afl_base.specs.declared.failed.Failed.{Failed}
 use Rattle.db_model.specs.ReplyText.{line}
 use Rattle.reply_text.specs.WroteLess.{WroteLess}
 use Rattle.run_model.specs.Runs.{image_line}
-<<<<<<< HEAD
 use Rattle.image_model.specs.Images.{IsSound}
-=======
-use Rattle.image_model.specs.Images.{IsFirstBroken, IsSound}
->>>>>>> 654202dd279969172ff05722aac35b84610a45c6
 use Rattle.stored_mend.specs.Report.{report_text}
 use Rattle.stored_mend.specs.declared.report.Mended.{Mended}
 use Rattle.run_repair.specs.Findings.{IsStrange, MayBeCut}

@@ -1,5 +1,4 @@
 -- What an image is found to be.
-<<<<<<< HEAD
 use Rattle.std.specs.Prelude.{◌≡◌, ⊤, ℕ, Bool, true, false, List, Option, Some, None}
 use Rattle.afl_base.specs.Files.{Table}
 use Rattle.afl_base.specs.declared.ids.SectorId.{SectorId}
@@ -15,14 +14,6 @@ use Rattle.image_model.specs.Images.{IsFirstBroken, IsSound, files_of_image}
 use Rattle.space_model.specs.FileNames.{catalog_file, is_there}
 use Rattle.stored.specs.CutTables.{IsCutTable}
 use Rattle.run_repair.specs.Rooms.{FindsRoom}
-=======
-use Rattle.std.specs.Prelude.{◌≡◌, ◌⊎◌, ⊤, ℕ, List, None}
-use Rattle.coffee_cuts.specs.Cuts.{MendsTo}
-use Rattle.coffee_find.specs.Found.{IsCutBy, IsTroubleInside}
-use Rattle.coffee_layout.specs.Files.{NamedFile}
-use Rattle.coffee_layout.specs.Rules.{broken_image}
-use Rattle.image_model.specs.Images.{IsFirstBroken, IsSound}
->>>>>>> 654202dd279969172ff05722aac35b84610a45c6
 use Rattle.run_repair.specs.declared.finding.Finding.{Finding}
 use Rattle.run_repair.specs.declared.finding.Finding.TheVariants.{Sound, Cut, Strange}
 

@@ -7,11 +7,7 @@ use Rattle.db_model.specs.ReplyText.{line, refusal_text}
 use Rattle.db_model.specs.declared.refusals.Refusal.TheVariants as no
 use Rattle.reply_text.specs.WroteLess.{WroteLess}
 use Rattle.run_model.specs.Runs.{image_line}
-<<<<<<< HEAD
 use Rattle.image_model.specs.Images.{IsSound, base, files_of_image}
-=======
-use Rattle.image_model.specs.Images.{IsFirstBroken, IsSound, base, files_of_image}
->>>>>>> 654202dd279969172ff05722aac35b84610a45c6
 use Rattle.image_model.specs.Mending.{ImageReadsAs}
 use Rattle.stored.specs.Mended.{mended_base}
 use Rattle.stored_mend.specs.Mending.{IsPutRight}

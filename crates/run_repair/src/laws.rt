@@ -8,11 +8,7 @@ ghost use Rattle.db_model.specs.Database.{Database};
 ghost use Rattle.run_repair.specs.Outcomes.{RepairsTo};
 ghost use Rattle.run_repair.specs.Repairs.{Repairs, database_in};
 ghost use Rattle.image_model.specs.Images.{IsSound, base};
-<<<<<<< HEAD
 ghost use Rattle.image_model.specs.Mending.{ImageMendsTo, ImageReadsAs};
-=======
-ghost use Rattle.image_model.specs.Mending.{ImageReadsAs};
->>>>>>> 654202dd279969172ff05722aac35b84610a45c6
 ghost use Rattle.stored_mend.specs.Mending.{IsPutRight};
 
 /// A repair that ended with 0 leaves a sound image, which stands for the very database that the image mended to,
