@@ -1,6 +1,6 @@
-mod Beside
-mod Erasures
-mod Joins
-mod Mends
-mod Settlings
-mod StandingLogs
+pub mod Beside
+pub mod Erasures
+pub mod Joins
+pub mod Mends
+pub mod Settlings
+pub mod StandingLogs

@@ -19,6 +19,7 @@ pub fn finds_room<F: Flash>(flash: &mut F, erased: Option<SectorId>) -> Result<b
         → IfOk result (λ finds. Decides finds (FindsRoom (F.image flash.old) erased)) }
     ensures frame { OnlyReads F.image F.lent F.reads F.faults flash.old flash.new result }
 {
+    flash.sectors();
     match erased {
         Some(sector) => {
             let has = has_room_in_front(flash, sector)?;
