@@ -2,9 +2,9 @@
 
 #![tactic(auto)]
 
-ghost use Rattle.std.specs.Prelude.{◌≡◌, ◌≤◌, ◌/◌, ℕ, List, length, Some, Result};
-ghost use Rattle.run_words.specs.declared.words.Form.TheVariants.{Run};
-ghost use Rattle.antelope_run.specs.Promise.{HasSpace, LeftBy};
+ghost use Rattle.std.specs.Prelude.{◌≡◌, ◌≢◌, ◌≤◌, ◌*◌, ◌/◌, ℕ, List, Option, length, true, Some, Result};
+ghost use Rattle.run_words.specs.declared.words.Form.TheVariants.{Run, Serve};
+ghost use Rattle.antelope_run.specs.Promise.{HasSpace, IsRun, LeftBy, Moment};
 ghost use Rattle.db_model.specs.declared.commands.Command.{Command};
 ghost use Rattle.db_model.specs.declared.refusals.Refusal.{Refusal};
 ghost use Rattle.db_model.specs.Database.{Database, empty_database};
@@ -12,8 +12,10 @@ ghost use Rattle.db_model.specs.Reading.{IsReader};
 ghost use Rattle.db_model.specs.Script.{commands};
 ghost use Rattle.db_model.specs.Sound.{IsSoundDatabase};
 ghost use Rattle.dump_model.specs.Script.{script};
+ghost use Rattle.run_repair.specs.Repairs.{Repairs};
 ghost use Rattle.run_laws.specs.Remaking.{Dumps, Remakes, RunsDump};
 ghost use Rattle.run_laws.specs.Places.{unsaid_front};
+ghost use Rattle.run_laws.specs.Survival.{InputRestores, InputSurvives};
 ghost use Rattle.run_model.specs.Runs.{InputFoundNoSpace, InputUnsaid, World};
 ghost use Rattle.run_model.specs.Scripts.{script_line, script_talk};
 ghost use Rattle.run_frames.specs.Frames.{frame_line};
@@ -24,9 +26,10 @@ ghost use Rattle.space_plan.specs.Planned.{planned};
 ghost use Rattle.space_plan.specs.Rings.{KeepsToRing, KeepsToSlots};
 
 use dump_model::{packed_databases_have_the_same_script, scripts_make_their_database};
-use image_model::erased_image_is_sound;
+use image_model::{erased_image_is_sound, sound_image_breaks_no_rule};
 use run_frames::frames_come_in_parts;
 use run_model::{scripts_are_answered_in_order, scripts_come_in_parts};
+use run_repair::cut_images_are_repaired;
 use space_plan::{planned_flash_has_enough, planned_flash_has_enough_for_rings};
 use stored::sound_files_are_a_sound_database;
 
@@ -117,4 +120,36 @@ pub fn one_place_is_unsaid()
 {
     scripts_come_in_parts();
     frames_come_in_parts();
+}
+
+/// However a run ends over a sound image, in the middle of a write too, where the failures of its flash are cuts: the
+/// replies to the entries in front were written, and at most a part of the next; and the image mends to the database after
+/// those entries, after the next one, too, or to one between these two.
+pub fn runs_survive_cuts()
+    ensures scripts { (read : List ℕ → Result Command Refusal) → IsReader read → (status : ℕ) (old new : Moment)
+        → IsSound old.world.image → (sectors : ℕ) → length new.world.image ≡ 4096 * sectors
+        → IsRun Run true status old new → InputSurvives script_line (script_talk read) old.world new.world }
+    ensures served { (read : List ℕ → Result Command Refusal) → IsReader read → (status : ℕ) (old new : Moment)
+        → IsSound old.world.image → (sectors : ℕ) → length new.world.image ≡ 4096 * sectors
+        → IsRun Serve true status old new → InputSurvives frame_line (serve_talk read) old.world new.world }
+{
+    sound_image_breaks_no_rule();
+}
+
+/// And a repair of what is left, in which nothing fails, ends with 0, and the image is sound and stands for such a database,
+/// put right; or with 3, where it lacks pages; or with 6, where the database is the empty one.
+pub fn repairs_restore_what_cuts_left()
+    ensures scripts { (read : List ℕ → Result Command Refusal) → IsReader read → (status : ℕ) (old new : Moment)
+        → IsSound old.world.image → (sectors : ℕ) → length new.world.image ≡ 4096 * sectors
+        → IsRun Run true status old new → (repair : ℕ) (image : List ℕ) (held now : Option (List ℕ))
+        → Repairs repair new.world.image image held now → repair ≢ 4 → repair ≢ 5
+        → InputRestores script_line (script_talk read) old.world new.world repair image }
+    ensures served { (read : List ℕ → Result Command Refusal) → IsReader read → (status : ℕ) (old new : Moment)
+        → IsSound old.world.image → (sectors : ℕ) → length new.world.image ≡ 4096 * sectors
+        → IsRun Serve true status old new → (repair : ℕ) (image : List ℕ) (held now : Option (List ℕ))
+        → Repairs repair new.world.image image held now → repair ≢ 4 → repair ≢ 5
+        → InputRestores frame_line (serve_talk read) old.world new.world repair image }
+{
+    runs_survive_cuts();
+    cut_images_are_repaired();
 }

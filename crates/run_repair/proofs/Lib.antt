@@ -1,1 +1,3 @@
 pub mod Mended
+pub mod Rooms
+pub mod Settled

@@ -30,41 +30,27 @@ use Rattle.run_repair.specs.declared.came.Hindrance.TheVariants.{Spaceless, Unse
 
 -- ---- what is left
 
--- an image that breaks a rule, and of whose files a cut left this: it is not sound, and can be mended
-pub found : (old first : List ℕ) (judged : Result ⊤ BadImage) (bad : BadImage) (trouble : Trouble) → ((image : List ℕ) (rule place : ℕ) → IsSound image → IsFirstBroken image rule place → ⊥)
-    → ((image : List ℕ) (t : Trouble) → IsCutBy image t → MendsTo image (files_of (settled image (meant t.under_way)))) → first ≡ old
-    → IfErr judged (λ b. IsFirstBroken old b.rule b.place) → judged ≡ Err bad → IsCutBy first trouble → (IsSound old → ⊥) × IsCutBy old trouble × IsMendable old
-found old first judged bad trouble unbroken mends same broken is cut =
-    let first_broken : IsFirstBroken old bad.rule bad.place = rw is at broken in
-    let cut_old : IsCutBy old trouble = subst (λ i. IsCutBy i trouble) same cut in
-    (λ sound. unbroken old bad.rule bad.place sound first_broken, cut_old, inr (files_of (settled old (meant trouble.under_way)), mends old trouble cut_old))
-
--- and is so whatever hinders it behind its first write
-pub left_hindered : (old new : List ℕ) (came : Result Came Hindrance) (why : Hindrance) → (IsSound old → ⊥) → IsMendable old → came ≡ Err why → Leaves old new came
-left_hindered old new came why unsound mendable is = subst (Leaves old new) (sym is) (by_reason why)
+-- and is so whatever hinders it after its first write
+pub left_hindered : (old new : List ℕ) (came : Result Came Hindrance) (why : Hindrance) → (IsSound old → ⊥) → MayBeCut old → IsHindered new why → came ≡ Err why → Leaves old new came
+left_hindered old new came why unsound cut hindered is = subst (Leaves old new) (sym is) (by_reason why hindered)
   where
-    by_reason : (why : Hindrance) → Leaves old new (Err why)
-    by_reason (Spaceless need) = (unsound, mendable)
-    by_reason (Unsettled bad) = (unsound, mendable)
-    by_reason Failed = inr (unsound, mendable)
+    by_reason : (why : Hindrance) → IsHindered new why → Leaves old new (Err why)
+    by_reason (Spaceless need) h = (unsound, cut, h)
+    by_reason (Unsettled bad) h = absurd h
+    by_reason Failed h = inr (unsound, cut)
 
-mended_files_base : (old new : List ℕ) → IsMended old new → ImageReadsAs old (λ mended. mended ≡ database_in new)
-mended_files_base old new m = record { files = files_of_image new; mends_to = table_mends old new m.files m.mends m.kept m.only; is = refl }
-
--- a sound image stands for the database that its files mend to
-pub left_repaired : (old mid late new : List ℕ) → (IsSound old → ⊥) → IsMended old mid → IsPutRight (database_in mid) (database_in late) → new ≡ late → IsSound late → Leaves old new (Ok Repaired)
-left_repaired old mid late new unsound m kept same sound =
-    let b = mended_files_base old mid m in
-    let sound_now : IsSound new = subst IsSound (sym same) sound in (
-      unsound,
-      inr (m.files, m.mends),
-      sound_now,
-      record {
-        files = b.files;
-        mends_to = b.mends_to;
-        is = subst (λ db. IsPutRight db (base new)) (sym b.is) (subst (IsPutRight (database_in mid)) (ap database_in (sym same) ∙ sound_base new sound_now) kept);
-      },
-    )
+-- an image that is repaired stands for the database that its files mend to
+pub left_repaired : (old mid late new : List ℕ) → (IsSound old → ⊥) → MayBeCut old → IsMended old mid → IsRestored (files_of_image mid) late → new ≡ late → Leaves old new (Ok Repaired)
+left_repaired old mid late new unsound cut m restored same = (
+  unsound,
+  cut,
+  subst IsSound (sym same) restored.sound,
+  record {
+    files = files_of_image mid;
+    mends_to = table_mends old mid m.files m.mends m.kept m.only;
+    is = subst (λ i. IsPutRight (mended_base (files_of_image mid)) (base i)) (sym same) restored.base_is;
+  },
+)
 
 -- ---- a volume over an image
 
@@ -87,20 +73,6 @@ judged_bad image mid state judged mounted same unbroken says =
     by_error files (Ok x) broken = tt
     by_error files (Err bad) broken = inr (unbroken, subst (λ table. BreaksFirst table bad.rule bad.place) files broken)
 
--- the database in the files of one that is mended
-
-pub volume_base : (old new : List ℕ) (before after : State) (sectors : ℕ) → length new ≡ 4096 * sectors → before ≡ mounted_state old
-    → IsPutRight (mended_base before.files) (mended_base after.files) → broken_image new ≡ None → HasEach after new → HasOnly after new → IsPutRight (database_in old) (database_in new)
-volume_base old new before after sectors size is kept sound each only =
-    let m : MendsToFiles new after.files = record {
-      named = files_of new;
-      mends = record { under_way = Nothing; found = tt; settles = inl sound; files_are = refl };
-      each = each;
-      only = only;
-    } in
-    subst (IsPutRight (database_in old)) (sym (one_base new (files_of_image new) after.files sectors size (own_files new sound) m))
-    (subst (λ db. IsPutRight db (mended_base after.files)) (ap (λ (s : State). mended_base s.files) is ∙ ap mended_base (mounted_files old)) kept)
-
 -- ---- laws
 
 left_there : (old new : List ℕ) (came : Result Came Hindrance) (db : Database) (sectors : ℕ) → length old ≡ 4096 * sectors → ImageReadsAs old (λ mended. mended ≡ db)
@@ -115,6 +87,32 @@ left_there old new (Ok (Strange bad)) db sectors size m l e = absurd (omega (ari
 left_there old new (Err (Spaceless need)) db sectors size m l e = absurd (omega (arith, e))
 left_there old new (Err (Unsettled bad)) db sectors size m l e = absurd (omega (arith, e))
 left_there old new (Err Failed) db sectors size m l e = absurd (omega (arith, e))
+
+-- where there is no catalog the database is the empty one
+no_catalog : (files : Table) → is_there catalog_file files ≡ false → mended_base files ≡ empty_database
+no_catalog files without = mended_none files (ap whole_bytes (by_file (file_named catalog_file files) refl without))
+  where
+    by_file : (o : Option File) → file_named catalog_file files ≡ o → is_some o ≡ false → bytes_in_file (file_named catalog_file files) ≡ []
+    by_file None e none = ap bytes_in_file e
+    by_file (Some f) e none = cc
+
+pub cut_repaired : (status : ℕ) (old new : List ℕ) (held now : Option (List ℕ)) (db : Database) (sectors : ℕ) → length old ≡ 4096 * sectors → ImageMendsTo old (λ mended. mended ≡ db)
+    → Repairs status old new held now → status ≢ 4 → status ≢ 5 → RepairsTo status db old new
+cut_repaired status old new held now db sectors size m r unfailed unsaid = ⊎_elim
+    (λ (all : (status ≡ status_after r.came) × _). by_came r.came r.leaves all.0)
+    (λ (less : (status ≡ 5) × _). absurd (unsaid less.0))
+    r.says
+  where
+    reads : ImageReadsAs old (λ mended. mended ≡ db)
+    reads = record { files = m.files; mends_to = m.mends_to; is = m.is }
+
+    by_came : (came : Result Came Hindrance) → Leaves old new came → status ≡ status_after came → RepairsTo status db old new
+    by_came (Ok Sound) l e = let r = left_there old new (Ok Sound) db sectors size reads l refl in inl (e, record { sound = r.0; base_is = r.1 })
+    by_came (Ok Repaired) l e = let r = left_there old new (Ok Repaired) db sectors size reads l refl in inl (e, record { sound = r.0; base_is = r.1 })
+    by_came (Ok (Strange bad)) l e = let r = l.strange.of_no_cut m.files m.mends_to m.cut in inr (inr (e, record { same = l.same; empty = sym m.is ∙ no_catalog m.files r.0 }))
+    by_came (Err (Spaceless need)) l e = inr (inl (e, record { need = need; cramped = l.2 }))
+    by_came (Err (Unsettled bad)) l e = absurd l.2
+    by_came (Err Failed) l e = absurd (unfailed e)
 
 pub repaired_base : (old new : List ℕ) (held now : Option (List ℕ)) (db : Database) (sectors : ℕ) → length old ≡ 4096 * sectors → ImageReadsAs old (λ mended. mended ≡ db)
     → Repairs 0 old new held now → IsSound new × IsPutRight db (base new)

@@ -5,10 +5,10 @@ use Rattle.afl_base.specs.declared.failed.Failed.{Failed}
 use Rattle.db_model.specs.ReplyText.{line}
 use Rattle.reply_text.specs.WroteLess.{WroteLess}
 use Rattle.run_model.specs.Runs.{image_line}
-use Rattle.image_model.specs.Images.{IsFirstBroken, IsSound}
+use Rattle.image_model.specs.Images.{IsSound}
 use Rattle.stored_mend.specs.Report.{report_text}
 use Rattle.stored_mend.specs.declared.report.Mended.{Mended}
-use Rattle.run_repair.specs.Findings.{IsMendable}
+use Rattle.run_repair.specs.Findings.{IsStrange, MayBeCut}
 use Rattle.run_repair.specs.declared.verdicts.Verdict.{Verdict}
 use Rattle.run_repair.specs.declared.verdicts.Verdict.TheVariants.{Sound, ToBeRepaired, Strange}
 
@@ -31,12 +31,12 @@ abbrev pub IsCheckSaid : (status : ℕ) → List Mended → Result Verdict Faile
 IsCheckSaid status mended came held now =
     ((status ≡ check_status came) × (now ≡ append_known held (check_text mended came))) ⊎ ((status ≡ 5) × WroteLess held now (check_text mended came))
 
--- the image is sound; it is not, and its files are sound or can be repaired, as where a repair writes; or this is its
+-- the image is sound; it is not, and a cut can have left it, as where a repair writes; or no cut can, and this is its
 -- first broken rule
 abbrev pub Finds : List ℕ → Result Verdict Failed → Type 0
 Finds image (Ok Sound) = IsSound image
-Finds image (Ok ToBeRepaired) = (IsSound image → ⊥) × IsMendable image
-Finds image (Ok (Strange bad)) = IsFirstBroken image bad.rule bad.place
+Finds image (Ok ToBeRepaired) = (IsSound image → ⊥) × MayBeCut image
+Finds image (Ok (Strange bad)) = IsStrange image bad.rule bad.place
 Finds image (Err failed) = ⊤
 
 -- what a check that ended with a status found of an image, and left of a sink

@@ -1,4 +1,7 @@
 pub mod Checks
 pub mod Findings
+pub mod Mends
+pub mod Outcomes
 pub mod Repairs
 pub mod Rooms
+pub mod Surveys

@@ -7,13 +7,14 @@ use Rattle.db_model.specs.ReplyText.{line, refusal_text}
 use Rattle.db_model.specs.declared.refusals.Refusal.TheVariants as no
 use Rattle.reply_text.specs.WroteLess.{WroteLess}
 use Rattle.run_model.specs.Runs.{image_line}
-use Rattle.image_model.specs.Images.{IsFirstBroken, IsSound, base, files_of_image}
+use Rattle.image_model.specs.Images.{IsSound, base, files_of_image}
 use Rattle.image_model.specs.Mending.{ImageReadsAs}
 use Rattle.stored.specs.Mended.{mended_base}
 use Rattle.stored_mend.specs.Mending.{IsPutRight}
 use Rattle.stored_mend.specs.Report.{report_text}
 use Rattle.stored_mend.specs.declared.report.Mended.{Mended}
-use Rattle.run_repair.specs.Findings.{IsMendable}
+use Rattle.run_repair.specs.Findings.{IsStrange, MayBeCut}
+use Rattle.run_repair.specs.Mends.{IsHindered}
 use Rattle.run_repair.specs.declared.came.Came.{Came}
 use Rattle.run_repair.specs.declared.came.Came.TheVariants.{Sound, Repaired, Strange}
 use Rattle.run_repair.specs.declared.came.Hindrance.{Hindrance}
@@ -42,21 +43,20 @@ abbrev pub IsSaid : (status : ℕ) → List Mended → Result Came Hindrance →
 IsSaid status mended came held now =
     ((status ≡ status_after came) × (now ≡ append_known held (said mended came))) ⊎ ((status ≡ 5) × WroteLess held now (said mended came))
 
--- no cut leaves an image so: it is as it was, and this is its first broken rule
+-- no cut can have left the image: it is as it was, and this is its first broken rule
 pub record IsLeftStrange (old new : List ℕ) (bad : BadImage) : Type 0 where
   pub same : new ≡ old
-  pub first : IsFirstBroken old bad.rule bad.place
+  pub strange : IsStrange old bad.rule bad.place
 
--- what is left of an image: it is sound, and as it was; it was not sound, and is, and stands for the database that it
--- mended to, put right; it is as it was, and this is its first broken rule; or the repair came to no end. It is written only where it is
--- not sound, and its files can be repaired
+-- what is left of an image: it is sound, and as it was; it was not, and is, and stands for the database that it mended to,
+-- put right; it is as it was, since no cut can have left it; or the repair came to no end. It is written only where it is
+-- not sound, and a cut can have left it
 abbrev pub Leaves : (old new : List ℕ) → Result Came Hindrance → Type 0
 Leaves old new (Ok Sound) = IsSound old × (new ≡ old)
-Leaves old new (Ok Repaired) = (IsSound old → ⊥) × IsMendable old × IsSound new × ImageReadsAs old (λ db. IsPutRight db (base new))
+Leaves old new (Ok Repaired) = (IsSound old → ⊥) × MayBeCut old × IsSound new × ImageReadsAs old (λ db. IsPutRight db (base new))
 Leaves old new (Ok (Strange bad)) = IsLeftStrange old new bad
-Leaves old new (Err (Spaceless need)) = (IsSound old → ⊥) × IsMendable old
-Leaves old new (Err (Unsettled bad)) = (IsSound old → ⊥) × IsMendable old
-Leaves old new (Err Failed) = (new ≡ old) ⊎ ((IsSound old → ⊥) × IsMendable old)
+Leaves old new (Err Failed) = (new ≡ old) ⊎ ((IsSound old → ⊥) × MayBeCut old)
+Leaves old new (Err why) = (IsSound old → ⊥) × MayBeCut old × IsHindered new why
 
 -- the database that the files of an image mend to
 abbrev pub database_in : List ℕ → Database

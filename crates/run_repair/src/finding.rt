@@ -1,6 +1,6 @@
-ghost use Rattle.std.specs.Prelude.{◌≡◌, ◌≤◌, IfOk, IfSome, IsTrue, List, length, ℕ};
+ghost use Rattle.std.specs.Prelude.{◌≡◌, ◌≤◌, IfNone, IfOk, IfSome, IsTrue, List, length, ℕ};
 ghost use Rattle.afl_base.specs.Causes.{HasCause};
-ghost use Rattle.coffee_find.specs.Found.{IsCutBy, IsJudged, IsJudgedInside, IsTroubleInside};
+ghost use Rattle.coffee_find.specs.Found.{IsCutBy, IsJudged, IsJudgedInside, IsTroubleInside, MendsToNone};
 ghost use Rattle.run_repair.specs.Findings.{IsFindingInside, IsFound};
 
 use crate::judging::judge_image;
@@ -48,6 +48,7 @@ pub fn find_out<F: Flash>(flash: &mut F) -> Result<Finding, Failed>
 fn trouble_of(judgement: Judgement) -> Option<Trouble>
     ensures cut { IfSome result (λ t. (image : List ℕ) → IsJudged image judgement → IsCutBy image t) }
     ensures inside { IfSome result (λ t. (size : ℕ) → IsJudgedInside size judgement → IsTroubleInside size t) }
+    ensures none { IfNone result ((image : List ℕ) → IsJudged image judgement → MendsToNone image) }
 {
     match judgement {
         Judgement::Sound => Some(Trouble {

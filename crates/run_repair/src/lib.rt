@@ -15,5 +15,5 @@ mod verdicts;
 
 pub use checking::check;
 pub use judging::judge_image;
-pub use laws::repaired_images_stand_for_what_they_mended_to;
+pub use laws::{cut_images_are_repaired, repaired_images_stand_for_what_they_mended_to};
 pub use repairing::repair;

@@ -1,22 +1,27 @@
-ghost use Rattle.std.specs.Prelude.{◌≡◌, ◌≤◌, ◌*◌, Err, IsTrue, None, OnOk, length, ℕ};
+ghost use Rattle.std.specs.Prelude.{◌≡◌, ◌≤◌, ◌*◌, Err, IfErr, IsTrue, None, OnOk, length, ℕ};
 ghost use Rattle.afl_base.specs.Causes.{Rose};
+ghost use Rattle.coffee_layout.specs.Rules.{broken_image};
 ghost use Rattle.coffee_volume.specs.Mounting.{mounted_state};
-ghost use Rattle.run_repair.specs.Repairs.{database_in};
-ghost use Rattle.stored_mend.specs.Mending.{IsPutRight};
+ghost use Rattle.run_repair.specs.Mends.{IsHindered, IsRestored};
 ghost use Rattle.run_repair.specs.declared.came.Hindrance.TheVariants.{Failed as FaultOfFlash};
+ghost use Rattle.image_model.specs.Images.{files_of_image};
+ghost use Rattle.stored.specs.CutTables.{IsCutTable};
 
 use crate::came::Hindrance;
 use afl_base::{FileError, Files, Flash};
 use coffee_volume::{Unlisted, Volume, list};
 use flash_views::Handed;
+use image_model::sound_files_are_a_sound_image;
 use stored_mend::{Report, mend_database};
 
-/// Puts the database of an image right whose files are sound: they mend to the same database then, but for what putting
-/// right may change in it.
+/// Repairs the database of an image whose files are sound.
 #[inline(never)]
 pub fn mend_image<F: Flash>(flash: &mut F, report: &mut Report) -> Result<(), Hindrance>
-    ensures base { IsTrue F.tells
-        → OnOk result (IsPutRight (database_in (F.image flash.old)) (database_in (F.image flash.new))) }
+    ensures restored { IsTrue F.tells → broken_image (F.image flash.old) ≡ None
+        → IsCutTable (files_of_image (F.image flash.old))
+        → OnOk result (IsRestored (files_of_image (F.image flash.old)) (F.image flash.new)) }
+    ensures hindered { IsTrue F.tells → broken_image (F.image flash.old) ≡ None
+        → IfErr result (IsHindered (F.image flash.new)) }
     ensures size { length (F.image flash.new) ≡ length (F.image flash.old) }
     ensures lent { F.lent flash.new ≡ F.lent flash.old }
     ensures later { F.faults flash.old ≤ F.faults flash.new }
@@ -35,11 +40,13 @@ pub fn mend_image<F: Flash>(flash: &mut F, report: &mut Report) -> Result<(), Hi
 // The same of the files of a volume that was just listed.
 fn mend_volume<F: Flash>(volume: &mut Volume<F>, report: &mut Report) -> Result<(), Hindrance>
     requires idle { (⟦<Volume<F> as Files>⟧.state volume.old).draft ≡ None }
-    requires listed { let files = ⟦<Volume<F> as Files>⟧ in IsTrue (files.state volume.old).tells
-        → files.state volume.old ≡ mounted_state (files.state volume.old).store }
-    requires sectors { (n : ℕ) × (length (⟦<Volume<F> as Files>⟧.state volume.old).store ≡ 4096 * n) }
-    ensures base { let files = ⟦<Volume<F> as Files>⟧ in IsTrue (files.state volume.old).tells → OnOk result
-        (IsPutRight (database_in (files.state volume.old).store) (database_in (files.state volume.new).store)) }
+    ensures restored { let files = ⟦<Volume<F> as Files>⟧ in IsTrue (files.state volume.old).tells
+        → IsCutTable (files.state volume.old).files
+        → OnOk result (IsRestored (files.state volume.old).files (files.state volume.new).store) }
+    ensures hindered { let files = ⟦<Volume<F> as Files>⟧ in IsTrue (files.state volume.new).tells
+        → IfErr result (IsHindered (files.state volume.new).store) }
+    ensures tells { let files = ⟦<Volume<F> as Files>⟧ in
+        (files.state volume.new).tells ≡ (files.state volume.old).tells }
     ensures size { let files = ⟦<Volume<F> as Files>⟧ in
         length (files.state volume.new).store ≡ length (files.state volume.old).store }
     ensures lent { ⟦<Volume<F> as Files>⟧.lent volume.new ≡ ⟦<Volume<F> as Files>⟧.lent volume.old }
@@ -47,11 +54,12 @@ fn mend_volume<F: Flash>(volume: &mut Volume<F>, report: &mut Report) -> Result<
     ensures cause { result ≡ Err FaultOfFlash
         → Rose (⟦<Volume<F> as Files>⟧.faults volume.old) (⟦<Volume<F> as Files>⟧.faults volume.new) }
 {
-    match mend_database(volume, report) {
-        Ok(()) => {}
-        Err(FileError::Space { need }) => return Err(Hindrance::Spaceless { need }),
-        Err(FileError::Failed) => return Err(Hindrance::Failed),
-    }
+    let mended = mend_database(volume, report);
+    sound_files_are_a_sound_image(volume);
     volume.ends();
-    Ok(())
+    match mended {
+        Ok(()) => Ok(()),
+        Err(FileError::Space { need }) => Err(Hindrance::Spaceless { need }),
+        Err(FileError::Failed) => Err(Hindrance::Failed),
+    }
 }

@@ -1,8 +1,9 @@
-ghost use Rattle.std.specs.Prelude.{◌≡◌, ◌≤◌, Err, IsTrue, OnOk, length};
+ghost use Rattle.std.specs.Prelude.{◌≡◌, ◌≤◌, Err, IfErr, IsTrue, OnOk, length};
 ghost use Rattle.afl_base.specs.Causes.{Rose};
 ghost use Rattle.coffee_find.specs.Found.{IsCutBy, IsTroubleInside};
 ghost use Rattle.coffee_mend.specs.Mended.{IsMended};
-ghost use Rattle.run_repair.specs.Findings.{IsMendable};
+ghost use Rattle.run_repair.specs.Findings.{IsLeftByCut};
+ghost use Rattle.run_repair.specs.Mends.{IsHindered};
 ghost use Rattle.run_repair.specs.Repairs.{IsRepairStatus, Leaves, Repairs};
 ghost use Rattle.image_model.specs.Images.{IsSound};
 ghost use Rattle.run_repair.specs.declared.came.Hindrance.TheVariants.{Failed as FaultOfFlash};
@@ -16,6 +17,7 @@ use afl_base::{Flash, Sink};
 use coffee_find::Trouble;
 use coffee_layout::BadImage;
 use coffee_mend::{MendError, mend};
+use image_model::sound_image_breaks_no_rule;
 use stored_mend::Report;
 
 /// Repairs an image that a power cut left, and answers the status that the program ends with.
@@ -23,9 +25,9 @@ use stored_mend::Report;
 /// | status | comes |
 /// |---|---|
 /// | 0 | the image was sound: `sound` was written, and it is as it was; or it was not, and is now, and stands for the database that it mended to, in which a relation may have one removed row more, and an index that had a tree may be gone: a line was written for each thing that was put right in its database, and `repaired` |
-/// | 3 | the flash has no room for what must be repaired, and `no space N` was written |
+/// | 3 | no extent of N pages is available for what must be repaired, and `no space N` was written |
 /// | 4, 5 | only where the flash, the sink counted a fault |
-/// | 6 | the image is not sound, and no cut leaves such a one: `no image RULE PLACE` was written |
+/// | 6 | the image is not sound, and no cut leaves such a one: it is as it was, and `no image RULE PLACE` was written |
 pub fn repair<F: Flash, K: Sink>(out: &mut K, flash: &mut F) -> u8
     ensures only { IsRepairStatus result }
     ensures told { IsTrue F.tells
@@ -65,12 +67,14 @@ fn put_cut_right<F: Flash>(
 ) -> Result<Came, Hindrance>
     requires inside { IsTroubleInside (length (F.image flash.old)) trouble.now }
     ensures leaves { IsTrue F.tells → (IsSound (F.image flash.old) → ⊥)
-        → IsCutBy (F.image flash.old) trouble.now → IsMendable (F.image flash.old)
+        → IsLeftByCut (F.image flash.old) trouble.now
         → Leaves (F.image flash.old) (F.image flash.new) result }
     ensures size { length (F.image flash.new) ≡ length (F.image flash.old) }
     ensures lent { F.lent flash.new ≡ F.lent flash.old }
     ensures cause { result ≡ Err FaultOfFlash → Rose (F.faults flash.old) (F.faults flash.new) }
 {
+    sound_image_breaks_no_rule();
+    flash.sectors();
     mend_files(flash, trouble, bad)?;
     mend_image(flash, report)?;
     match judge_image(flash)? {
@@ -84,9 +88,11 @@ fn mend_files<F: Flash>(flash: &mut F, trouble: &Trouble, bad: BadImage) -> Resu
     requires inside { IsTroubleInside (length (F.image flash.old)) trouble.now }
     ensures mended { IsTrue F.tells → IsCutBy (F.image flash.old) trouble.now
         → OnOk result (IsMended (F.image flash.old) (F.image flash.new)) }
+    ensures hindered { IsTrue F.tells → IsCutBy (F.image flash.old) trouble.now
+        → IfErr result (IsHindered (F.image flash.new)) }
     ensures size { length (F.image flash.new) ≡ length (F.image flash.old) }
     ensures lent { F.lent flash.new ≡ F.lent flash.old }
-    ensures later { OnOk result (F.faults flash.old ≤ F.faults flash.new) }
+    ensures later { F.faults flash.old ≤ F.faults flash.new }
     ensures cause { result ≡ Err FaultOfFlash → Rose (F.faults flash.old) (F.faults flash.new) }
 {
     match mend(flash, trouble) {

@@ -1,9 +1,13 @@
-ghost use Rattle.std.specs.Prelude.{◌≡◌, ℕ, ◌+◌, ◌≤◌, Some, length};
+ghost use Rattle.std.specs.Prelude.{◌≡◌, ℕ, ◌+◌, ◌≤◌, IfOk, IsTrue, None, Some, length};
 ghost use Rattle.afl_base.specs.Causes.{HasCause};
 ghost use Rattle.afl_base.specs.Keeping.{OnlyReads};
-ghost use Rattle.coffee_find.specs.Found.{HasRecord, IsTroubleInside};
+ghost use Rattle.coffee_find.specs.Found.{HasRecord, IsCutBy, IsTroubleInside};
+ghost use Rattle.coffee_layout.specs.Rules.{broken_image};
+ghost use Rattle.run_repair.specs.Findings.{IsSurveyed, erased_sector, settled_image, torn_place};
+ghost use Rattle.run_repair.specs.Surveys.{AreSurveyed};
+ghost use Rattle.image_model.specs.Images.{files_of_image};
 
-use crate::room::has_room_in_front;
+use crate::room::finds_room;
 use afl_base::{Failed, Files, Flash, SectorId};
 use catalog::catalog_file;
 use coffee_find::{TornRecord, Trouble, UnderWay, overlay_of};
@@ -16,6 +20,8 @@ use stored_survey::{foretell, may_be_cut};
 /// Nothing is written, where it fails too.
 pub fn survey_image<F: Flash>(flash: &mut F, trouble: &Trouble) -> Result<bool, Failed>
     requires inside { IsTroubleInside (length (F.image flash.old)) trouble.now }
+    ensures surveyed { IsTrue F.tells → IsCutBy (F.image flash.old) trouble.now → IfOk result
+        (IsSurveyed (settled_image (F.image flash.old) trouble.now) (erased_sector trouble.now.under_way)) }
     ensures same { F.image flash.new ≡ F.image flash.old }
     ensures lent { F.lent flash.new ≡ F.lent flash.old }
     ensures cause { HasCause (F.faults flash.old) (F.faults flash.new) result }
@@ -29,6 +35,8 @@ pub fn survey_image<F: Flash>(flash: &mut F, trouble: &Trouble) -> Result<bool, 
 #[inline(never)]
 fn survey_settled<F: Flash>(flash: F, trouble: &Trouble, surveyed: &mut Result<bool, Failed>) -> F
     requires inside { IsTroubleInside (length (F.image flash)) trouble.now }
+    ensures surveyed { IsTrue F.tells → IsCutBy (F.image flash) trouble.now → IfOk surveyed.new
+        (IsSurveyed (settled_image (F.image flash) trouble.now) (erased_sector trouble.now.under_way)) }
     ensures same { F.image result ≡ F.image flash }
     ensures lent { F.lent result ≡ F.lent flash }
     ensures cause { HasCause (F.faults flash) (F.faults result) surveyed.new }
@@ -93,6 +101,7 @@ fn foretell_view<F: Flash>(flash: &mut F, report: &mut Report) -> Result<(), Fai
 
 // Where the torn record begins.
 fn torn_place(torn: &Option<TornRecord>) -> Option<u32>
+    ensures place { result ≡ torn_place torn.now }
     ensures inside { (size : ℕ) → HasRecord size torn.now → (p : ℕ) → result ≡ Some p → p + 128 ≤ size }
 {
     match torn {
@@ -102,7 +111,9 @@ fn torn_place(torn: &Option<TornRecord>) -> Option<u32>
 }
 
 // The sector that was being erased.
-fn erased_sector(under_way: &UnderWay) -> Option<SectorId> {
+fn erased_sector(under_way: &UnderWay) -> Option<SectorId>
+    ensures { result ≡ erased_sector under_way.now }
+{
     match under_way {
         UnderWay::Erasing { sector, page: _ } => Some(*sector),
         _ => None,
@@ -111,23 +122,25 @@ fn erased_sector(under_way: &UnderWay) -> Option<SectorId> {
 
 // The same of an image as it reads now. Where there is no catalog, a sector is erased only for one that finds no free pages.
 fn survey_view<F: Flash>(flash: &mut F, erased: Option<SectorId>) -> Result<bool, Failed>
+    ensures surveyed { IsTrue F.tells → broken_image (F.image flash.old) ≡ None
+        → IfOk result (IsSurveyed (F.image flash.old) erased) }
     ensures same { F.image flash.new ≡ F.image flash.old }
     ensures lent { F.lent flash.new ≡ F.lent flash.old }
     ensures cause { HasCause (F.faults flash.old) (F.faults flash.new) result }
 {
-    let surveyed = survey_files(flash)?;
-    match (surveyed, erased) {
-        (Surveyed::WithoutCatalog, Some(sector)) => {
-            let has_room = has_room_in_front(flash, sector)?;
-            Ok(!has_room)
+    match survey_files(flash)? {
+        Surveyed::Strange => Ok(false),
+        Surveyed::Cut => Ok(true),
+        Surveyed::WithoutCatalog => {
+            let in_vain = finds_room(flash, erased)?;
+            Ok(!in_vain)
         }
-        _ => Ok(surveyed != Surveyed::Strange),
     }
 }
 
 // What is found of the files.
 #[derive(Clone, Copy, PartialEq, Eq)]
-enum Surveyed {
+pub(crate) enum Surveyed {
     // No cut leaves such files.
     Strange,
     // A cut can have left them, and there is no catalog.
@@ -137,6 +150,8 @@ enum Surveyed {
 }
 
 fn survey_files<F: Flash>(flash: &mut F) -> Result<Surveyed, Failed>
+    ensures surveyed { IsTrue F.tells → broken_image (F.image flash.old) ≡ None
+        → IfOk result (AreSurveyed (files_of_image (F.image flash.old))) }
     ensures same { F.image flash.new ≡ F.image flash.old }
     ensures lent { F.lent flash.new ≡ F.lent flash.old }
     ensures cause { HasCause (F.faults flash.old) (F.faults flash.new) result }
@@ -151,6 +166,8 @@ fn survey_files<F: Flash>(flash: &mut F) -> Result<Surveyed, Failed>
 }
 
 fn survey<V: Files>(files: &mut V) -> Result<Surveyed, Failed>
+    ensures surveyed { IsTrue (V.state files.old).tells
+        → IfOk result (AreSurveyed (V.state files.old).files) }
     ensures frame { OnlyReads V.state V.lent V.reads V.faults files.old files.new result }
 {
     if !may_be_cut(files)? {
