@@ -1,6 +1,8 @@
-use Rattle.std.proofs.Common.{ap, sym, ◌∙◌}
+use Rattle.std.proofs.Common.{◌∙◌, ap, arith, sym}
 use Rattle.db_model.specs.Catalog.{catalog_of}
+use Rattle.padded.proofs.Facts.{err_is}
 use Rattle.stored_mend.specs.Trees.{LacksRoom}
+use Rattle.stored_mend.proofs.Framed.{kept_ok, not_ok, then_err}
 use Rattle.stored_mend.proofs.PutRight.{right_by}
 use Rattle.stored_mend.proofs.mending.mend_contents.Goals as goal
 
@@ -8,6 +10,28 @@ pub returns-clause-kept : goal.returns-clause-kept
 returns-clause-kept g c =
     right_by (LacksRoom g.V.Files.state g.V.Files.lacks) (g.V.Files.state c.args.files.now) (g.V.Files.state c.mend_all_rows.new.files) (g.V.Files.state c.mend_all_trees.new.files)
     c.in_ok-mend_all_rows.ensures.kept c.in_ok-mend_all_trees.ensures.kept
+
+pub returns-in_err-mend_all_trees-clause-frame : goal.returns-in_err-mend_all_trees-clause-frame
+returns-in_err-mend_all_trees-clause-frame g c =
+    let a = c.in_ok-mend_all_rows.ensures.frame in
+    then_err g.V.Files.state g.V.Files.lent g.V.Files.reads g.V.Files.faults g.V.Files.lacks _ _ _ _ _ c.in_err-mend_all_trees.field-0.0 c.from_residual-in_err-mend_all_trees.result
+    (err_is c.from_residual-in_err-mend_all_trees.result c.in_err-mend_all_trees.field-0.0 c.from_residual-in_err-mend_all_trees.ensures.1) a.store a.lent a.later a.cause.later c.in_err-mend_all_trees.ensures.frame
+
+pub returns-clause-frame : goal.returns-clause-frame
+returns-clause-frame g c =
+    let a = c.in_ok-mend_all_rows.ensures.frame in
+    let b = c.in_ok-mend_all_trees.ensures.frame in
+    let later = a.later in
+    let behind = b.later in
+    let risen = a.cause.later in
+    let more = b.cause.later in
+    kept_ok g.V.Files.state g.V.Files.lent g.V.Files.reads g.V.Files.faults g.V.Files.lacks _ _ _ (b.store ∙ a.store) (b.lent ∙ a.lent) (omega (arith, later, behind)) (omega (arith, risen, more))
+
+pub returns-in_err-mend_all_rows-clause-sound : goal.returns-in_err-mend_all_rows-clause-sound
+returns-in_err-mend_all_rows-clause-sound g c = λ told loaded half stage. not_ok _ _ c.from_residual.result c.from_residual.ensures.1
+
+pub returns-in_err-mend_all_trees-clause-sound : goal.returns-in_err-mend_all_trees-clause-sound
+returns-in_err-mend_all_trees-clause-sound g c = λ told loaded half stage. not_ok _ _ c.from_residual-in_err-mend_all_trees.result c.from_residual-in_err-mend_all_trees.ensures.1
 
 pub returns-clause-sound : goal.returns-clause-sound
 returns-clause-sound g c = λ told loaded half stage.

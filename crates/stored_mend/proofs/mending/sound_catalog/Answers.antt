@@ -7,3 +7,6 @@ pub returns-in-Ok-clause-listed : goal.returns-in-Ok-clause-listed
 returns-in-Ok-clause-listed g c = λ told.
     relations_listed (g.V.Files.state c.args.files.now).files c.in-Ok.catalog.relations (rw c.in-Ok.is at c.in_ok-catalog.ensures.size)
     (ap (λ (slots : Catalog). slots.relations) ((rw c.in-Ok.is at c.in_ok-catalog.ensures.catalog) told))
+
+pub returns-in-Ok-clause-loaded : goal.returns-in-Ok-clause-loaded
+returns-in-Ok-clause-loaded g c = λ told. (rw c.in-Ok.is at c.in_ok-catalog.ensures.catalog) told
