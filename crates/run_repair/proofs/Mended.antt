@@ -1,8 +1,8 @@
 -- The database that an image mends to is the one that stands in it once it is repaired.
-use Rattle.std.proofs.Common.{◌≡◌, inl, inr, ⊎_elim, ℕ, ◌*◌, List, length, Option, None, refl, ap, sym, subst, ◌∙◌, arith}
-use Rattle.std.specs.Prelude.{⊤, Result, Ok, Err, IfErr, IfOk, OnOk}
+use Rattle.std.proofs.Common.{◌≡◌, inl, inr, ⊎_elim, ℕ, ◌*◌, Bool, List, length, Option, None, Some, true, false, refl, ap, sym, subst, ◌∙◌, arith}
+use Rattle.std.specs.Prelude.{◌≢◌, ◌⊎◌, [], is_some, ⊤, Result, Ok, Err, IfErr, IfOk, OnOk}
 use Rattle.std.proofs.lemmas.Result.{IfOk-weaker, on_ok_weaker}
-use Rattle.afl_base.specs.Files.{State}
+use Rattle.afl_base.specs.Files.{File, State, Table}
 use Rattle.coffee_cuts.specs.Cuts.{MendsTo, Nothing, settled}
 use Rattle.coffee_find.specs.Found.{IsCutBy, meant}
 use Rattle.coffee_find.specs.declared.trouble.Trouble.{Trouble}
@@ -12,16 +12,20 @@ use Rattle.coffee_layout.specs.declared.unit.BadImage.{BadImage}
 use Rattle.coffee_mend.specs.Mended.{IsMended}
 use Rattle.coffee_volume.specs.Cuts.{MendsToFiles}
 use Rattle.coffee_volume.specs.Mounting.{HasEach, HasOnly, mounted_state}
-use Rattle.db_model.specs.Database.{Database}
+use Rattle.db_model.specs.Database.{Database, empty_database}
+use Rattle.space_model.specs.FileNames.{bytes_in_file, catalog_file, file_named, is_there}
+use Rattle.stored.proofs.MendedBase.{mended_none}
 use Rattle.image_model.specs.Images.{IsFirstBroken, IsSound, base, files_of_image}
-use Rattle.image_model.specs.Mending.{ImageReadsAs}
+use Rattle.image_model.specs.Mending.{ImageMendsTo, ImageReadsAs}
 use Rattle.image_model.proofs.Mounted.{mounted_files}
 use Rattle.image_model.proofs.OneBase.{one_base, own_files, sound_base, sound_is, table_mends}
-use Rattle.stored.specs.Mended.{mended_base}
+use Rattle.stored.specs.Mended.{mended_base, whole_bytes}
 use Rattle.stored.specs.Sound.{BreaksFirst, IsSoundTable}
 use Rattle.stored_mend.specs.Mending.{IsPutRight}
 use Rattle.stored_mend.proofs.PutRight.{put_right_same}
-use Rattle.run_repair.specs.Findings.{IsMendable}
+use Rattle.run_repair.specs.Findings.{MayBeCut}
+use Rattle.run_repair.specs.Mends.{IsHindered, IsRestored}
+use Rattle.run_repair.specs.Outcomes.{RepairsTo}
 use Rattle.run_repair.specs.Repairs.{Leaves, Repairs, database_in, status_after}
 use Rattle.run_repair.specs.declared.came.Came.{Came}
 use Rattle.run_repair.specs.declared.came.Came.TheVariants.{Sound, Repaired, Strange}
@@ -31,10 +35,10 @@ use Rattle.run_repair.specs.declared.came.Hindrance.TheVariants.{Spaceless, Unse
 -- ---- what is left
 
 -- and is so whatever hinders it after its first write
-pub left_hindered : (old new : List ℕ) (came : Result Came Hindrance) (why : Hindrance) → (IsSound old → ⊥) → MayBeCut old → IsHindered new why → came ≡ Err why → Leaves old new came
+pub left_hindered : (old new : List ℕ) (came : Result Came Hindrance) (why : Hindrance) → (IsSound old → ⊥) → MayBeCut old → IsHindered why → came ≡ Err why → Leaves old new came
 left_hindered old new came why unsound cut hindered is = subst (Leaves old new) (sym is) (by_reason why hindered)
   where
-    by_reason : (why : Hindrance) → IsHindered new why → Leaves old new (Err why)
+    by_reason : (why : Hindrance) → IsHindered why → Leaves old new (Err why)
     by_reason (Spaceless need) h = (unsound, cut, h)
     by_reason (Unsettled bad) h = absurd h
     by_reason Failed h = inr (unsound, cut)
@@ -110,7 +114,7 @@ cut_repaired status old new held now db sectors size m r unfailed unsaid = ⊎_e
     by_came (Ok Sound) l e = let r = left_there old new (Ok Sound) db sectors size reads l refl in inl (e, record { sound = r.0; base_is = r.1 })
     by_came (Ok Repaired) l e = let r = left_there old new (Ok Repaired) db sectors size reads l refl in inl (e, record { sound = r.0; base_is = r.1 })
     by_came (Ok (Strange bad)) l e = let r = l.strange.of_no_cut m.files m.mends_to m.cut in inr (inr (e, record { same = l.same; empty = sym m.is ∙ no_catalog m.files r.0 }))
-    by_came (Err (Spaceless need)) l e = inr (inl (e, record { need = need; cramped = l.2 }))
+    by_came (Err (Spaceless need)) l e = inr (inl e)
     by_came (Err (Unsettled bad)) l e = absurd l.2
     by_came (Err Failed) l e = absurd (unfailed e)
 

@@ -1,7 +1,8 @@
 -- An image once what a cut left of its files is settled, and whether a cut can have left its database.
 use Rattle.std.proofs.Common.{◌≡◌, ℕ, ◌+◌, ◌*◌, ◌≤◌, Bool, true, false, List, length, Option, None, Some, refl, ap, sym, subst, ◌∙◌, arith}
 use Rattle.std.specs.List.{Contains}
-use Rattle.afl_base.specs.Files.{Table}
+use Rattle.std.specs.Prelude.{is_some, ⊤, Result, Err, IfErr}
+use Rattle.afl_base.specs.Files.{IsNamed, IsUnnamed, Table}
 use Rattle.afl_base.specs.Image.{zeros_at}
 use Rattle.coffee_cuts.specs.Cuts.{settled}
 use Rattle.coffee_find.specs.Found.{HasRecord, IsCutBy, IsSoundBut, IsTornAt, IsTroubleInside, MendsToNone, meant}
@@ -10,16 +11,19 @@ use Rattle.coffee_find.specs.declared.trouble.Trouble.{Trouble}
 use Rattle.coffee_layout.specs.Files.{files_of}
 use Rattle.coffee_layout.specs.Rules.{broken_image}
 use Rattle.coffee_layout.specs.Units.{pages_of}
+use Rattle.coffee_layout.specs.declared.unit.BadImage.{BadImage}
 use Rattle.coffee_mend.specs.Mended.{IsMended, IsSoundAs}
 use Rattle.coffee_mend.proofs.Mends.{mended_torn, mended_whole, torn_found}
 use Rattle.coffee_volume.specs.Cuts.{MendsToFiles}
-use Rattle.image_model.specs.Images.{files_of_image}
+use Rattle.image_model.specs.Images.{IsFirstBroken, IsSound, files_of_image}
 use Rattle.image_model.proofs.OneBase.{one_cut, one_there, table_mends}
 use Rattle.image_model.proofs.OneName.{settled_long}
-use Rattle.space_model.specs.FileNames.{catalog_file}
+use Rattle.space_model.specs.FileNames.{catalog_file, is_there}
+use Rattle.catalog.proofs.Named.{named_none}
+use Rattle.stored.proofs.SoundCut.{named_there}
 use Rattle.stored.specs.CutTables.{IsCutTable}
 use Rattle.flash_views.specs.Views.{blanked}
-use Rattle.run_repair.specs.Findings.{ErasesInVain, IsCutDatabase, IsErasedInVain, IsLeftByCut, IsOfNoCut, IsSurveyed, erased_sector, settled_image, torn_place}
+use Rattle.run_repair.specs.Findings.{ErasesInVain, IsCutDatabase, IsErasedInVain, IsLeftByCut, IsOfNoCut, IsStrange, IsSurveyed, erased_sector, settled_image, torn_place}
 
 -- the image that is settled is sound, and has the files that the image mends to
 pub settles_to : (image : List ℕ) (trouble : Trouble) (sectors : ℕ) → length image ≡ 4096 * sectors → IsTroubleInside (length image) trouble → IsCutBy image trouble
@@ -63,7 +67,7 @@ of_no_database image trouble sectors size inside cut surveyed files m table =
     let settled_files : Table = files_of_image (settled_image image trouble) in
     let n : MendsToFiles image settled_files = mends_settled image trouble sectors size inside cut in
     let in_vain = surveyed (one_cut image files settled_files sectors size m n table) in
-    (sym (one_there image files settled_files catalog_file sectors size m n) ∙ in_vain.without, (trouble, record { files = cut; in_vain = in_vain }))
+    (sym (one_there image files settled_files catalog_file sectors size m n) ∙ in_vain.without, trouble, record { files = cut; in_vain = in_vain })
 
 -- what a mended image has is what a cut can have left
 pub mended_cut : (image mended : List ℕ) (trouble : Trouble) (sectors : ℕ) → length image ≡ 4096 * sectors → IsTroubleInside (length image) trouble → IsLeftByCut image trouble → IsMended image mended
@@ -71,3 +75,44 @@ pub mended_cut : (image mended : List ℕ) (trouble : Trouble) (sectors : ℕ) �
 mended_cut image mended trouble sectors size inside left m =
     one_cut image (files_of_image (settled_image image trouble)) (files_of_image mended) sectors size (mends_settled image trouble sectors size inside left.files) (table_mends image mended m.files m.mends m.kept m.only)
     left.database.files
+
+-- ---- the catalog's file
+
+-- it is there where a file has its name, and is not where none has
+pub is_named_there : (files : Table) (id : ℕ) → IsNamed files id catalog_file → is_there catalog_file files ≡ true
+is_named_there files id named = named_there files id catalog_file named
+
+pub is_unnamed_there : (files : Table) → IsUnnamed files catalog_file → is_there catalog_file files ≡ false
+is_unnamed_there files none = ap is_some (named_none files catalog_file none)
+
+-- ---- what is found
+
+-- the first broken rule of an image that no cut can have left
+pub strange_found : (old first : List ℕ) (judged : Result ⊤ BadImage) (bad : BadImage) → first ≡ old → IfErr judged (λ b. IsFirstBroken old b.rule b.place) → judged ≡ Err bad → IsOfNoCut first
+    → IsStrange old bad.rule bad.place
+strange_found old first judged bad same broken is none = record { first = rw is at broken; of_no_cut = subst IsOfNoCut same none }
+
+-- what is surveyed with no
+pub cut_refused : (old first second : List ℕ) (judged : Result ⊤ BadImage) (bad : BadImage) (trouble : Trouble) (b : Bool) (sectors : ℕ) → length old ≡ 4096 * sectors → IsTroubleInside (length old) trouble
+    → first ≡ old → second ≡ first → IfErr judged (λ b. IsFirstBroken old b.rule b.place) → judged ≡ Err bad → IsCutBy first trouble
+    → IsSurveyed (settled_image second trouble) (erased_sector trouble.under_way) b → b ≡ false → IsStrange old bad.rule bad.place
+cut_refused old first second judged bad trouble b sectors size inside same again broken is cut surveyed refused =
+    strange_found old old judged bad refl broken is
+    (of_no_database old trouble sectors size inside (subst (λ i. IsCutBy i trouble) same cut)
+    (subst (λ i. IsSurveyed (settled_image i trouble) (erased_sector trouble.under_way) false) (again ∙ same)
+    (subst (IsSurveyed (settled_image second trouble) (erased_sector trouble.under_way)) refused surveyed)))
+
+-- and with yes
+pub cut_found : (old first second : List ℕ) (judged : Result ⊤ BadImage) (bad : BadImage) (trouble : Trouble) (b : Bool) → ((image : List ℕ) (rule place : ℕ) → IsSound image → IsFirstBroken image rule place → ⊥)
+    → first ≡ old → second ≡ first → IfErr judged (λ b. IsFirstBroken old b.rule b.place) → judged ≡ Err bad → IsCutBy first trouble
+    → IsSurveyed (settled_image second trouble) (erased_sector trouble.under_way) b → b ≡ true → (IsSound old → ⊥) × IsLeftByCut old trouble
+cut_found old first second judged bad trouble b unbroken same again broken is cut surveyed taken =
+    let first_broken : IsFirstBroken old bad.rule bad.place = rw is at broken in (
+      λ sound. unbroken old bad.rule bad.place sound first_broken,
+      record {
+        files = subst (λ i. IsCutBy i trouble) same cut;
+        database =
+            subst (λ i. IsSurveyed (settled_image i trouble) (erased_sector trouble.under_way) true) (again ∙ same)
+            (subst (IsSurveyed (settled_image second trouble) (erased_sector trouble.under_way)) taken surveyed);
+      },
+    )

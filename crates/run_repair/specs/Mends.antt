@@ -1,8 +1,6 @@
 -- What mending leaves of an image, and what may hinder it.
 use Rattle.std.specs.Prelude.{⊤, ℕ, List}
 use Rattle.afl_base.specs.Files.{Table}
-use Rattle.coffee_layout.specs.Marks.{IsCramped}
-use Rattle.coffee_layout.specs.Tiling.{units_of}
 use Rattle.image_model.specs.Images.{IsSound, base}
 use Rattle.stored.specs.Mended.{mended_base}
 use Rattle.stored_mend.specs.Mending.{IsPutRight}
@@ -14,8 +12,8 @@ pub record IsRestored (files : Table) (image : List ℕ) : Type 0 where
   pub sound : IsSound image
   pub base_is : IsPutRight (mended_base files) (base image)
 
--- no extent of the pages that are wanted is available in the image, or the flash failed
-abbrev pub IsHindered : List ℕ → Hindrance → Type 0
-IsHindered image (Spaceless need) = IsCramped (units_of image) need
-IsHindered image (Unsettled bad) = ⊥
-IsHindered image Failed = ⊤
+-- what may hinder a repair: that pages are lacking, or that the flash failed; never that an image is not what was found
+abbrev pub IsHindered : Hindrance → Type 0
+IsHindered (Spaceless need) = ⊤
+IsHindered (Unsettled bad) = ⊥
+IsHindered Failed = ⊤

@@ -56,7 +56,7 @@ Leaves old new (Ok Sound) = IsSound old × (new ≡ old)
 Leaves old new (Ok Repaired) = (IsSound old → ⊥) × MayBeCut old × IsSound new × ImageReadsAs old (λ db. IsPutRight db (base new))
 Leaves old new (Ok (Strange bad)) = IsLeftStrange old new bad
 Leaves old new (Err Failed) = (new ≡ old) ⊎ ((IsSound old → ⊥) × MayBeCut old)
-Leaves old new (Err why) = (IsSound old → ⊥) × MayBeCut old × IsHindered new why
+Leaves old new (Err why) = (IsSound old → ⊥) × MayBeCut old × IsHindered why
 
 -- the database that the files of an image mend to
 abbrev pub database_in : List ℕ → Database

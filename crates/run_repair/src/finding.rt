@@ -6,7 +6,7 @@ ghost use Rattle.run_repair.specs.Findings.{IsFindingInside, IsFound};
 use crate::judging::judge_image;
 use crate::surveying::survey_image;
 use afl_base::{Failed, Flash};
-use coffee_find::{Judgement, Trouble, UnderWay, cut_images_mend, judge};
+use coffee_find::{Judgement, Trouble, UnderWay, judge};
 use coffee_layout::BadImage;
 use image_model::sound_image_breaks_no_rule;
 
@@ -31,7 +31,7 @@ pub fn find_out<F: Flash>(flash: &mut F) -> Result<Finding, Failed>
     ensures cause { HasCause (F.faults flash.old) (F.faults flash.new) result }
 {
     sound_image_breaks_no_rule();
-    cut_images_mend();
+    flash.sectors();
     let Err(bad) = judge_image(flash)? else {
         return Ok(Finding::Sound);
     };

@@ -21,7 +21,7 @@ pub fn mend_image<F: Flash>(flash: &mut F, report: &mut Report) -> Result<(), Hi
         → IsCutTable (files_of_image (F.image flash.old))
         → OnOk result (IsRestored (files_of_image (F.image flash.old)) (F.image flash.new)) }
     ensures hindered { IsTrue F.tells → broken_image (F.image flash.old) ≡ None
-        → IfErr result (IsHindered (F.image flash.new)) }
+        → IfErr result IsHindered }
     ensures size { length (F.image flash.new) ≡ length (F.image flash.old) }
     ensures lent { F.lent flash.new ≡ F.lent flash.old }
     ensures later { F.faults flash.old ≤ F.faults flash.new }
@@ -43,10 +43,7 @@ fn mend_volume<F: Flash>(volume: &mut Volume<F>, report: &mut Report) -> Result<
     ensures restored { let files = ⟦<Volume<F> as Files>⟧ in IsTrue (files.state volume.old).tells
         → IsCutTable (files.state volume.old).files
         → OnOk result (IsRestored (files.state volume.old).files (files.state volume.new).store) }
-    ensures hindered { let files = ⟦<Volume<F> as Files>⟧ in IsTrue (files.state volume.new).tells
-        → IfErr result (IsHindered (files.state volume.new).store) }
-    ensures tells { let files = ⟦<Volume<F> as Files>⟧ in
-        (files.state volume.new).tells ≡ (files.state volume.old).tells }
+    ensures hindered { IfErr result IsHindered }
     ensures size { let files = ⟦<Volume<F> as Files>⟧ in
         length (files.state volume.new).store ≡ length (files.state volume.old).store }
     ensures lent { ⟦<Volume<F> as Files>⟧.lent volume.new ≡ ⟦<Volume<F> as Files>⟧.lent volume.old }

@@ -89,7 +89,7 @@ fn mend_files<F: Flash>(flash: &mut F, trouble: &Trouble, bad: BadImage) -> Resu
     ensures mended { IsTrue F.tells → IsCutBy (F.image flash.old) trouble.now
         → OnOk result (IsMended (F.image flash.old) (F.image flash.new)) }
     ensures hindered { IsTrue F.tells → IsCutBy (F.image flash.old) trouble.now
-        → IfErr result (IsHindered (F.image flash.new)) }
+        → IfErr result IsHindered }
     ensures size { length (F.image flash.new) ≡ length (F.image flash.old) }
     ensures lent { F.lent flash.new ≡ F.lent flash.old }
     ensures later { F.faults flash.old ≤ F.faults flash.new }

@@ -41,6 +41,7 @@ fn survey_settled<F: Flash>(flash: F, trouble: &Trouble, surveyed: &mut Result<b
     ensures lent { F.lent result ≡ F.lent flash }
     ensures cause { HasCause (F.faults flash) (F.faults result) surveyed.new }
 {
+    flash.sectors();
     let overlay = overlay_of(&trouble.under_way, torn_place(&trouble.torn));
     let erased = erased_sector(&trouble.under_way);
     let mut view = View::new(flash, overlay);

@@ -1,21 +1,17 @@
-use Rattle.std.proofs.Common.{◌≡◌, ◌∙◌, ap, length, rules}
+use Rattle.std.proofs.Common.{◌≡◌, ◌∙◌, ap, sym, subst, length, rules}
 use Rattle.std.specs.Prelude.{OnOk}
-use Rattle.run_repair.specs.Repairs.{database_in}
-use Rattle.stored_mend.specs.Mending.{IsPutRight}
+use Rattle.afl_base.specs.Files.{State, Table}
+use Rattle.image_model.specs.Images.{files_of_image}
+use Rattle.image_model.proofs.Mounted.{mounted_files}
+use Rattle.stored.specs.CutTables.{IsCutTable}
+use Rattle.run_repair.specs.Mends.{IsRestored}
 use Rattle.run_repair.proofs.mending.mend_image.Goals as goal
 
-pub mend_volume-requires : goal.mend_volume-requires
-mend_volume-requires g c =
+pub returns-clause-restored : goal.returns-clause-restored
+returns-clause-restored g c = λ told unbroken cut.
     let volume = c.over-volume.ensures in
-    record {
-      idle = volume.idle;
-      listed = λ told. rw (← volume.same) at (volume.files (rw volume.tells at told));
-      sectors = (c.sectors.result, ap length volume.same ∙ ap length c.list.ensures.same ∙ c.sectors.ensures.size);
-    }
-
-pub returns-clause-base : goal.returns-clause-base
-returns-clause-base g c = λ told.
-    let volume = c.over-volume.ensures in
-    let base : OnOk c.mend_volume.result (IsPutRight (database_in (g.F.Flash.image c.args.flash.now)) (database_in (g.F.Flash.image c.mend_volume.new.volume.flash.flash.now))) =
-    rw (← c.list.ensures.same) (rw (← volume.same) (c.mend_volume.ensures.base (volume.tells ∙ told))) in
-    search (rules, base)
+    let files = ap (λ (s : State). s.files) (volume.files told) ∙ mounted_files (g.F.Flash.image c.list.new.flash) ∙ ap files_of_image c.list.ensures.same in
+    let restored : OnOk c.mend_volume.result (IsRestored (files_of_image (g.F.Flash.image c.args.flash.now)) (g.F.Flash.image c.mend_volume.new.volume.flash.flash.now)) =
+    subst (λ (table : Table). OnOk c.mend_volume.result (IsRestored table (g.F.Flash.image c.mend_volume.new.volume.flash.flash.now))) files
+    (c.mend_volume.ensures.restored (volume.tells ∙ told) (subst IsCutTable (sym files) cut)) in
+    search (rules, restored)
