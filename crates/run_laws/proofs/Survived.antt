@@ -90,7 +90,7 @@ module _ {E : Type 0} (m : Machine E) (sectors : ℕ) where
         front = u.front;
         part = u.written.part;
         written = u.written.held;
-        begun = inr (record { entry = s.entry; rest = s.rest; split = s.split }, u.written.rest, inr (u.n, same_tail (m.written u.front) (m.refused s.entry u.n) (u.written.part ++ u.written.rest) u.written.split));
+        begun = inr (record { entry = s.entry; rest = s.rest; split = s.split }, u.written.rest, inr (u.n, same_tail (m.written u.front) (m.refused s.entry u.n) (u.written.part ++ u.written.rest) (u.written.split ∙ append_assoc (m.written u.front) u.written.part u.written.rest)));
         mends = mends_before entries u.front new.image size s.stands;
       }
     where
@@ -190,7 +190,7 @@ module _ {E : Type 0} (line : Line E) (talk : Talk E) (sectors : ℕ) where
       at_cut is = ⊎_elim
           (λ (l : LeavesImage old.world new.world × (new.world.held ≡ old.world.held)). untouched old.world new.world sound size l.0 l.1)
           (λ (b : IsSound old.world.image × BrokenOff form old.world new.world). broken_off old.world new.world (breaks b.1))
-          (run.broken_off tt is)
+          (run.broken_off refl is)
 
       by_done : (done : Result ⊤ InputEnding) → status ≡ status_of done → LeavesBehind form old.world new.world done → InputSurvives line talk old.world new.world
       by_done (Ok x) is l = ended old.world new.world (Ok x) size (leaves (Ok x) l) (λ e. cc)
