@@ -7,6 +7,7 @@ pub mod Judged
 pub mod Marks
 pub mod Packed
 pub mod Puts
+pub mod Removed
 pub mod Slots
 pub mod Written
 pub mod Holding

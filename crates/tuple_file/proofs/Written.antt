@@ -1,6 +1,6 @@
 -- Rows that are written as they were read, from the first slot on.
 use Rattle.std.proofs.Common.{◌≡◌, refl, sym, ap, subst, ◌∙◌, ℕ, zero, suc, ◌+◌, ◌-◌, ◌*◌, ◌<◌, ◌≤◌, List, [], ◌∷◌, ◌++◌, length, take, drop, get_or, arith, add-one, mul-suc}
-use Rattle.std.specs.Prelude.{map, slice_range}
+use Rattle.std.specs.Prelude.{IsTrue, map, slice_range}
 use Rattle.std.specs.List.{range_with_len}
 use Rattle.std.proofs.lemmas.Grind.{flat_map-append}
 use Rattle.std.proofs.lemmas.List.{append-nil, drop-take, length-append, length-take-le, drop_at, take_at, take-append-drop, take-take}
@@ -10,6 +10,9 @@ use Rattle.db_model.specs.declared.schemas.Attribute.{Attribute}
 use Rattle.db_model.specs.Row.{AllSuit, Row, row_at, row_bytes, row_length, rows_bytes, rows_of, slots_in_bytes}
 use Rattle.db_model.proofs.Decoded.{length-row_read}
 use Rattle.db_model.proofs.Rows.{rows_of-insert, slot_inside}
+use Rattle.afl_base.specs.Files.{State, bytes_at}
+use Rattle.tuple_file.specs.declared.tuples.Tuples.{Tuples}
+use Rattle.tuple_file.specs.Tuples.{HoldsRows, row, slot_bytes, slots}
 use Rattle.tuple_file.proofs.Slots.{length-rows, slots_of_whole}
 use Rattle.std.proofs.lemmas.Grind.{common_steps}
 use Rattle.padded.proofs.Facts.{drop_item}
@@ -129,3 +132,12 @@ written_from attributes bytes n long each = written_all attributes bytes n long 
 pub written_insert : (attributes : List Attribute) (row : Row) (n : ℕ) (bytes : List ℕ) → length bytes ≡ row_length attributes * n → AllSuit attributes row.tuple → rows_bytes attributes (rows_of attributes bytes) ≡ bytes
     → rows_bytes attributes (rows_of attributes (bytes ++ row_bytes attributes row)) ≡ bytes ++ row_bytes attributes row
 written_insert attributes row n bytes long suit all = grind (arith, common_steps, rows_of-insert, flat_map-append, append-nil)
+
+-- the bytes of each slot of a relation's file are those of its row
+pub written_slot : (state : State) (tuples : Tuples) (slot : ℕ) → HoldsRows state tuples → IsTrue state.tells → slot < slots state.files tuples
+    → row_bytes tuples.schema.attributes (row state.files tuples slot) ≡ slot_bytes state.files tuples slot
+written_slot state tuples slot holds told below =
+    let attributes = tuples.schema.attributes in
+    let bytes = bytes_at state.files tuples.file in
+    let n = slots state.files tuples in
+    written_each attributes bytes n slot holds.whole below (written_first attributes bytes n slot holds.whole (omega (arith, below)) (holds.written told)) (holds.written told)

@@ -1,5 +1,5 @@
 -- Rows on their way into the draft of a relation's file.
-use Rattle.std.specs.Prelude.{◌≡◌, ℕ, ◌+◌, ◌-◌, ◌≤◌, IsSome, IsTrue, List, length, drop, replicate}
+use Rattle.std.specs.Prelude.{◌≡◌, ℕ, ◌+◌, ◌-◌, ◌%◌, ◌≤◌, IsSome, IsTrue, List, length, drop, replicate}
 use Rattle.afl_base.specs.Fields.{put_at}
 use Rattle.afl_base.specs.Files.{State, draft_in}
 
@@ -11,6 +11,10 @@ pub record WaitingRows : Type 0 where
 -- where the bytes after them belong
 abbrev pub end_of_waiting : WaitingRows → ℕ
 end_of_waiting waiting = waiting.at + length waiting.bytes
+
+-- how many bytes there are from a place in a file to the end of its page: a file begins 32 bytes after a page does
+abbrev pub page_rest : ℕ → ℕ
+page_rest at = 256 - (at + 32) % 256
 
 -- the draft as it is once they are written
 abbrev pub gathered : State → WaitingRows → List ℕ

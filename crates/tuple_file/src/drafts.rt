@@ -2,23 +2,24 @@
 
 #![tactic(auto)]
 
-ghost use Rattle.std.specs.Prelude.{◌≡◌, ◌≢◌, ◌+◌, ◌-◌, ◌*◌, ◌≤◌, ◌<◌, Bool, IfOk, IsOkUnless, IsSome, IsTrue, List, MatchBool, None, OnErr, OnOk, false, length, not, replicate, slice_index, true};
+ghost use Rattle.std.specs.Prelude.{◌≡◌, ◌≢◌, ◌+◌, ◌-◌, ◌*◌, ◌≤◌, ◌<◌, IfOk, IsOkUnless, IsSome, IsTrue, List, None, OnErr, OnOk, false, length, replicate, slice_index, slice_set, true};
 ghost use Rattle.afl_base.specs.Keeping.{Changes, ChangesOrLacks, OnlyReads};
 ghost use Rattle.std.specs.Fn.{FnReturnsAt};
 ghost use Rattle.afl_base.specs.CutFiles.{CutKeeps, CutKeepsOrLeaves};
 ghost use Rattle.afl_base.specs.FileErrors.{OnSpace, WhereFailed};
 ghost use Rattle.afl_base.specs.Files.{Commits, Drafts, IsLive, Keeps, draft_in, file_at, size_at};
 ghost use Rattle.afl_base.specs.Fit.{fit};
-ghost use Rattle.db_model.specs.Row.{AllRowsSuit, AllSuit, Row, row_length, rows_bytes};
+ghost use Rattle.db_model.specs.Row.{AllRowsSuit, AllSuit, Row, row_bytes, row_length, row_of, rows_bytes, tuple_of};
 ghost use Rattle.tuple_file.specs.CutRows.{HasWholeRows};
 ghost use Rattle.tuple_file.specs.Drafts.{HasSlot, IsZeroDraft, PutsRow};
 ghost use Rattle.tuple_file.specs.Gathered.{IsFree, TakesRows, end_of_waiting, gathered};
 ghost use Rattle.tuple_file.specs.Tuples.{AreAnswered, HoldsRows, IsAnswered, IsLiveTuple, IsRowFile, OnlyDraftChanges, OnlyRowsChange, live_rows, row, rows, slots};
 
-use crate::tuples::Tuples;
+use crate::rows::{get_tuple, is_live, values_suit};
+use crate::tuples::{ROW_SIZE, Tuples};
 use crate::waiting::Waiting;
 use afl_base::{Failed, FileError, Files};
-use db_model::{Tuple, row_length};
+use db_model::{Attributes, Tuple, row_length};
 
 impl Tuples {
     /// Asks `removed` once about each live row, and removes those for which it answers true. Their
@@ -132,10 +133,11 @@ impl Tuples {
         ensures cut { CutKeeps V.cuts V.mends V.state files.old files.new (OnErr result) }
         ensures frame { Changes V.state V.lent V.reads V.faults files.old files.new result }
     {
-        let mut tuple = Tuple::new();
-        let live = self.get(files, slot, &mut tuple)?;
-        let stays = stays(live, &tuple, removed);
-        waiting.put(files, &self.schema.attributes, &tuple, stays)?;
+        let mut bytes = [0; ROW_SIZE];
+        let row = &mut bytes[..row_length(&self.schema.attributes)];
+        self.read(files, slot, row)?;
+        answer(&self.schema.attributes, row, removed);
+        waiting.put(files, row)?;
         Ok(())
     }
 
@@ -285,12 +287,14 @@ impl Tuples {
         ensures cut { CutKeeps V.cuts V.mends V.state files.old files.new (OnErr result) }
         ensures frame { Changes V.state V.lent V.reads V.faults files.old files.new result }
     {
-        let mut tuple = Tuple::new();
-        let live = self.get(files, slot, &mut tuple)?;
-        if !live || written == room {
+        let mut bytes = [0; ROW_SIZE];
+        let row = &mut bytes[..row_length(&self.schema.attributes)];
+        self.read(files, slot, row)?;
+        values_suit(&self.schema.attributes, row);
+        if !is_live(row) || written == room {
             return Ok(written);
         }
-        waiting.put(files, &self.schema.attributes, &tuple, true)?;
+        waiting.put(files, row)?;
         Ok(written + 1)
     }
 
@@ -331,11 +335,41 @@ impl Tuples {
     }
 }
 
-// Whether a row is live after `removed` was asked about it.
-fn stays<F: Fn(&Tuple) -> bool>(live: bool, tuple: &Tuple, removed: &F) -> bool
-    requires { IsTrue live → (shown : _) → shown.now ≡ tuple.now → F.pre removed.now shown }
-    ensures { MatchBool live ((answer : Bool) × FnReturnsAt F.Fn removed.now tuple.now answer
-        × (result ≡ not answer)) (result ≡ false) }
+// Marks the bytes of a live row as removed, if `removed` answers so about it.
+fn answer<F: Fn(&Tuple) -> bool>(attributes: &Attributes, row: &mut [u8], removed: &F)
+    requires size { length row.old ≡ row_length attributes.now }
+    requires callable { (shown : _) → IsTrue (row_of attributes.now row.old).live
+        → shown.now ≡ tuple_of attributes.now row.old → AllSuit attributes.now shown.now
+        → F.pre removed.now shown }
+    ensures answered { row_bytes attributes.now (row_of attributes.now row.old) ≡ row.old → (new : Row)
+        × IsAnswered (FnReturnsAt F.Fn removed.now) (row_of attributes.now row.old) new
+        × AllSuit attributes.now new.tuple × (row.new ≡ row_bytes attributes.now new) }
+    ensures size { length row.new ≡ length row.old }
 {
-    live && !removed(tuple)
+    values_suit(attributes, row);
+    if !is_live(row) {
+        return;
+    }
+    let mut tuple = Tuple::new();
+    get_tuple(attributes, row, &mut tuple);
+    if answer_about(&tuple, removed) {
+        mark_removed(row);
+    }
+}
+
+// What `removed` answers about a tuple.
+fn answer_about<F: Fn(&Tuple) -> bool>(tuple: &Tuple, removed: &F) -> bool
+    requires { (shown : _) → shown.now ≡ tuple.now → F.pre removed.now shown }
+    ensures { FnReturnsAt F.Fn removed.now tuple.now result }
+{
+    removed(tuple)
+}
+
+// Makes the last byte of a row the mark of a removed one.
+fn mark_removed(row: &mut [u8])
+    requires { 1 ≤ length row.old }
+    ensures { row.new ≡ slice_set row.old (length row.old - 1) 3 }
+{
+    let last = row.len() - 1;
+    row[last] = 3;
 }

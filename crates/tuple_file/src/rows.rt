@@ -29,6 +29,12 @@ pub fn get_tuple(attributes: &Attributes, row: &[u8], into: &mut Tuple)
     }
 }
 
+/// The values that bytes are read as suit the attributes, whatever the bytes are.
+#[tactic(auto, using(db_model::proofs::Decoded::tuple_suits))]
+pub fn values_suit(attributes: &Attributes, row: &[u8])
+    ensures { AllSuit attributes.now (tuple_of attributes.now row.now) }
+{}
+
 // Makes the bytes of `row` those of the tuple's row.
 pub fn put_row(attributes: &Attributes, tuple: &Tuple, live: bool, row: &mut [u8])
     requires suits { AllSuit attributes.now tuple.now }

@@ -131,7 +131,12 @@ impl Tuples {
     }
 
     // Fills `into` with the bytes of the row in the slot of this number.
-    fn read<V: Files>(&self, files: &mut V, slot: u16, into: &mut [u8]) -> Result<(), Failed>
+    pub(crate) fn read<V: Files>(
+        &self,
+        files: &mut V,
+        slot: u16,
+        into: &mut [u8],
+    ) -> Result<(), Failed>
         requires live { IsLive (V.state files.old).files self.now.file }
         requires size { length into.old ≡ row_length self.now.schema.attributes }
         requires short { row_length self.now.schema.attributes ≤ 128 }

@@ -7,35 +7,35 @@ ghost use Rattle.afl_base.specs.CutFiles.{CutKeeps};
 ghost use Rattle.afl_base.specs.Fields.{put_at};
 ghost use Rattle.afl_base.specs.Files.{draft_in};
 ghost use Rattle.afl_base.specs.Keeping.{Changes};
-ghost use Rattle.db_model.specs.Row.{AllSuit, row_bytes, row_length};
-ghost use Rattle.tuple_file.specs.Gathered.{IsFree, TakesRows, end_of_waiting, gathered};
+ghost use Rattle.tuple_file.specs.Gathered.{IsFree, TakesRows, end_of_waiting, gathered, page_rest};
 ghost use Rattle.tuple_file.specs.Tuples.{OnlyDraftChanges};
 
-use crate::rows::put_row;
 use afl_base::{Failed, Files};
-use db_model::{Attributes, Tuple, row_length};
 use std::marker::Model;
 
-// The most bytes that wait.
-const WAITING_SIZE: usize = 256;
+// The bytes of a page, and those of it before the first byte of a file. What is written in whole pages is programmed once;
+// nothing else depends on them.
+const PAGE_SIZE: usize = 256;
 
-/// Up to 256 bytes of rows that the draft does not have yet.
+const HEADER_SIZE: usize = 32;
+
+/// Bytes of rows that the draft does not have yet, up to where a page ends.
 #[derive(Drop)]
 pub(crate) struct Waiting {
-    bytes: [u8; WAITING_SIZE],
+    bytes: [u8; PAGE_SIZE],
     filled: usize,
     at: u32,
 }
 
 impl Model for Waiting {
     ghost use Rattle.std.specs.Prelude.{◌≤◌, take};
-    ghost use Rattle.tuple_file.specs.Gathered.{WaitingRows};
+    ghost use Rattle.tuple_file.specs.Gathered.{WaitingRows, page_rest};
 
     ghost Value = { WaitingRows };
 
     ghost view = { λ w. record { at = w.at; bytes = take w.filled w.bytes } };
 
-    ghost invariant = { λ w. w.filled ≤ 256 };
+    ghost invariant = { λ w. w.filled ≤ page_rest w.at };
 }
 
 impl Waiting {
@@ -45,73 +45,51 @@ impl Waiting {
         ensures none { result.bytes ≡ [] }
     {
         Waiting {
-            bytes: [0; WAITING_SIZE],
+            bytes: [0; PAGE_SIZE],
             filled: 0,
             at: 0,
         }
     }
 
-    /// Puts a row after those that came before it.
-    pub(crate) fn put<V: Files>(
-        &mut self,
-        files: &mut V,
-        attributes: &Attributes,
-        tuple: &Tuple,
-        live: bool,
-    ) -> Result<(), Failed>
-        requires short { row_length attributes.now ≤ 128 }
-        requires suits { AllSuit attributes.now tuple.now }
+    /// Puts the bytes of a row after those that came before it. What waits is written where a page ends.
+    pub(crate) fn put<V: Files>(&mut self, files: &mut V, row: &[u8]) -> Result<(), Failed>
+        requires short { length row.now ≤ 128 }
         requires takes { TakesRows (V.state files.old) self.old }
-        requires range { end_of_waiting self.old + row_length attributes.now
-            ≤ length (draft_in (V.state files.old)).bytes }
+        requires range { end_of_waiting self.old + length row.now ≤ length (draft_in (V.state files.old)).bytes }
         ensures put { IsTrue (V.state files.old).tells
             → OnOk result (gathered (V.state files.new) self.new
-            ≡ put_at (gathered (V.state files.old) self.old) (end_of_waiting self.old)
-            (row_bytes attributes.now (record { tuple = tuple.now; live = live }))) }
+            ≡ put_at (gathered (V.state files.old) self.old) (end_of_waiting self.old) row.now) }
         ensures free { IsTrue (V.state files.old).tells
             → OnOk result (IsFree (V.state files.new) self.new) }
-        ensures end { OnOk result (end_of_waiting self.new ≡ end_of_waiting self.old + row_length attributes.now) }
+        ensures end { OnOk result (end_of_waiting self.new ≡ end_of_waiting self.old + length row.now) }
         ensures only { OnOk result (OnlyDraftChanges (V.state files.old) (V.state files.new)) }
         ensures cut { CutKeeps V.cuts V.mends V.state files.old files.new (OnErr result) }
         ensures frame { Changes V.state V.lent V.reads V.faults files.old files.new result }
     {
-        self.make_room(files, row_length(attributes))?;
-        self.take_in(attributes, tuple, live);
-        Ok(())
-    }
-
-    // Makes room for this many bytes.
-    fn make_room<V: Files>(&mut self, files: &mut V, count: usize) -> Result<(), Failed>
-        requires count { count ≤ 128 }
-        requires takes { TakesRows (V.state files.old) self.old }
-        requires range { end_of_waiting self.old ≤ length (draft_in (V.state files.old)).bytes }
-        ensures same { IsTrue (V.state files.old).tells
-            → OnOk result (gathered (V.state files.new) self.new ≡ gathered (V.state files.old) self.old) }
-        ensures free { IsTrue (V.state files.old).tells
-            → OnOk result (IsFree (V.state files.new) self.new) }
-        ensures end { OnOk result (end_of_waiting self.new ≡ end_of_waiting self.old) }
-        ensures room { OnOk result (length self.new.bytes + count ≤ 256) }
-        ensures only { OnOk result (OnlyDraftChanges (V.state files.old) (V.state files.new)) }
-        ensures cut { CutKeeps V.cuts V.mends V.state files.old files.new (OnErr result) }
-        ensures frame { Changes V.state V.lent V.reads V.faults files.old files.new result }
-    {
-        if self.filled + count <= WAITING_SIZE {
-            return Ok(());
+        let fits = row.len().min(self.room());
+        self.take_in(&row[..fits]);
+        if self.room() == 0 {
+            self.flush(files)?;
+            self.take_in(&row[fits..]);
         }
-        self.flush(files)?;
         Ok(())
     }
 
-    // Takes a row in, for which there is room.
-    fn take_in(&mut self, attributes: &Attributes, tuple: &Tuple, live: bool)
-        requires suits { AllSuit attributes.now tuple.now }
-        requires room { length self.old.bytes + row_length attributes.now ≤ 256 }
-        ensures at { self.new.at ≡ self.old.at }
-        ensures bytes { self.new.bytes ≡ self.old.bytes
-            ++ row_bytes attributes.now (record { tuple = tuple.now; live = live }) }
+    // How many bytes more belong to the page that waits.
+    fn room(&self) -> usize
+        ensures { result + length self.now.bytes ≡ page_rest self.now.at }
     {
-        let end = self.filled + row_length(attributes);
-        put_row(attributes, tuple, live, &mut self.bytes[self.filled..end]);
+        PAGE_SIZE - (self.at as usize + HEADER_SIZE) % PAGE_SIZE - self.filled
+    }
+
+    // Takes bytes in, for which there is room in the page.
+    fn take_in(&mut self, more: &[u8])
+        requires room { length self.old.bytes + length more.now ≤ page_rest self.old.at }
+        ensures at { self.new.at ≡ self.old.at }
+        ensures bytes { self.new.bytes ≡ self.old.bytes ++ more.now }
+    {
+        let end = self.filled + more.len();
+        self.bytes[self.filled..end].copy_from_slice(more);
         self.filled = end;
     }
 

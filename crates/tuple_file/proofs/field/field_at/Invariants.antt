@@ -1,4 +1,4 @@
-use Rattle.std.proofs.Common.{◌≡◌, ◌+◌, ◌≤◌, drop, length, slice_get}
+use Rattle.std.proofs.Common.{◌≡◌, ◌≤◌, drop, length, slice_get}
 use Rattle.db_model.specs.Row.{fields_length, tuple_of}
 use Rattle.tuple_file.proofs.field.field_at.Given as goal
 
