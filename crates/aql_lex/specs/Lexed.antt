@@ -1,10 +1,11 @@
 -- What `next_token` answers, by cases.
-use Rattle.std.specs.Prelude.{ℕ, ◌≡◌, ◌+◌, ◌-◌, List, drop, Some}
+use Rattle.std.specs.Prelude.{ℕ, ◌≡◌, ◌+◌, ◌-◌, Bool, true, false, List, drop, Some}
 use Rattle.std.specs.List.{prefix_len}
 use Rattle.db_model.specs.Tokens.{is_white, token_at}
 use Rattle.aql_lex.specs.declared.lexed.Lexed.{Lexed}
 use Rattle.aql_lex.specs.declared.lexed.Lexed.TheVariants.{Token as Found, End, Bad}
 use Rattle.db_model.specs.declared.tokens.Token.{Token}
+use Rattle.db_model.specs.declared.tokens.Token.TheVariants.{Number, Quoted}
 
 -- where a token was found: of it, and of the places where it begins and ends
 abbrev pub OnToken : Lexed → (Token → ℕ → ℕ → Type 0) → Type 0
@@ -31,3 +32,9 @@ behind_white bytes at = at + prefix_len is_white (drop at bytes)
 -- the bytes from one place to another are a token
 abbrev pub IsTokenIn : List ℕ → Token → ℕ → ℕ → Type 0
 IsTokenIn bytes token from to = token_at (drop from bytes) ≡ Some (token, to - from)
+
+-- a number or a text
+abbrev pub is_literal : Token → Bool
+is_literal (Number value) = true
+is_literal (Quoted text) = true
+is_literal _ = false

@@ -81,7 +81,7 @@ fn word_token(word: &[u8]) -> Option<Token>
     }
 }
 
-fn number_at(bytes: &[u8]) -> Option<(Token, usize)>
+pub fn number_at(bytes: &[u8]) -> Option<(Token, usize)>
     ensures { result ≡ number_at bytes.now }
 {
     let len = digits_len(bytes);
@@ -114,7 +114,7 @@ fn value_of(digits: &[u8]) -> u64
 }
 
 // A text and its closing quote, after the opening one; the length counts both quotes.
-fn quoted_at(bytes: &[u8]) -> Option<(Token, usize)>
+pub fn quoted_at(bytes: &[u8]) -> Option<(Token, usize)>
     ensures token { result ≡ quoted_at bytes.now }
     ensures within { IfSome result (λ found. (1 < found.1) × (found.1 ≤ 1 + length bytes.now)) }
 {
@@ -175,7 +175,7 @@ fn greater_than(next: u8) -> (Sign, usize)
 }
 
 // The byte at a place, 0 after the last.
-fn byte_at(bytes: &[u8], at: usize) -> u8
+pub fn byte_at(bytes: &[u8], at: usize) -> u8
     ensures { result ≡ get_or bytes.now at 0 }
 {
     match bytes.get(at) {
@@ -184,17 +184,24 @@ fn byte_at(bytes: &[u8], at: usize) -> u8
     }
 }
 
-fn white_len(bytes: &[u8]) -> usize
+pub fn white_len(bytes: &[u8]) -> usize
     ensures len { result ≡ prefix_len is_white bytes.now }
     ensures within { result ≤ length bytes.now }
 {
-    bytes
-        .iter()
-        .take_while(|b| matches!(**b, b' ' | b'\t' | b'\n' | b'\r'))
-        .count()
+    bytes.iter().take_while(|b| is_white(**b)).count()
 }
 
-fn word_len(bytes: &[u8]) -> usize
+// Most bytes are beyond the space, and one comparison tells them.
+fn is_white(byte: u8) -> bool
+    ensures { result ≡ is_white byte }
+{
+    if byte > b' ' {
+        return false;
+    }
+    matches!(byte, b' ' | b'\t' | b'\n' | b'\r')
+}
+
+pub fn word_len(bytes: &[u8]) -> usize
     ensures len { result ≡ prefix_len is_word_byte bytes.now }
     ensures within { result ≤ length bytes.now }
 {
@@ -202,6 +209,12 @@ fn word_len(bytes: &[u8]) -> usize
         .iter()
         .take_while(|b| b.is_ascii_alphanumeric() || **b == b'_')
         .count()
+}
+
+pub fn is_word_byte(byte: u8) -> bool
+    ensures { result ≡ is_word_byte byte }
+{
+    byte.is_ascii_alphanumeric() || byte == b'_'
 }
 
 fn digits_len(bytes: &[u8]) -> usize

@@ -18,6 +18,13 @@ by_white at b bs w = elim w [
   | false ↦ elim (token_at (b ∷ bs)) [ None ↦ no_tokens false | Some token ↦ token_then token.0 (at + token.1) (tokens_from (at + 1) (token.1 - 1) bs) ]
 ]
 
+-- and a token that may be there
+abbrev pub placed : (at : ℕ) (bs : List ℕ) (w : Bool) (r : Option (Token × ℕ)) → Tokens
+placed at bs w r = elim w [
+  | true ↦ tokens_from (at + 1) 0 bs
+  | false ↦ elim r [ None ↦ no_tokens false | Some token ↦ token_then token.0 (at + token.1) (tokens_from (at + 1) (token.1 - 1) bs) ]
+]
+
 first_of_token : (at m : ℕ) (b : ℕ) (bs : List ℕ) (t : Token) (r : Option (Token × ℕ)) → r ≡ Some (t, suc m) → m ≤ length bs →
     elim r as (λ _. Tokens) [ None ↦ no_tokens false | Some token ↦ token_then token.0 (at + token.1) (tokens_from (at + 1) (token.1 - 1) bs) ] ≡ token_then t (at + suc m) (tokens_from (at + suc m) 0 (drop m bs))
 first_of_token at m b bs t None e h = cc
@@ -51,6 +58,30 @@ token_next (b ∷ bs) at m t e within = go (is_white b) e within (λ k f h. toke
     go false e within next =
         let none : suc m ≡ 0 + suc m = omega arith in
         first_of_token at m b bs t (token_at (b ∷ bs)) e (omega arith) ∙ ap (λ k. token_then t (at + k) (tokens_from (at + k) 0 (drop k (b ∷ bs)))) none
+
+-- ---- the places change no token
+
+pub same_items : (bs : List ℕ) (at other skip : ℕ) → (tokens_from at skip bs).items ≡ (tokens_from other skip bs).items
+same_items [] at other skip = refl
+same_items (b ∷ bs) at other (suc skip) = same_items bs (at + 1) (other + 1) skip
+same_items (b ∷ bs) at other zero = go (is_white b) (token_at (b ∷ bs)) (λ skip. same_items bs (at + 1) (other + 1) skip)
+  where
+    go : (w : Bool) (r : Option (Token × ℕ)) → ((skip : ℕ) → (tokens_from (at + 1) skip bs).items ≡ (tokens_from (other + 1) skip bs).items) →
+        (placed at bs w r).items ≡ (placed other bs w r).items
+    go true r rest = rest 0
+    go false None rest = refl
+    go false (Some token) rest = ap (λ ts. token.0 ∷ ts) (rest (token.1 - 1))
+
+pub same_whole : (bs : List ℕ) (at other skip : ℕ) → (tokens_from at skip bs).whole ≡ (tokens_from other skip bs).whole
+same_whole [] at other skip = refl
+same_whole (b ∷ bs) at other (suc skip) = same_whole bs (at + 1) (other + 1) skip
+same_whole (b ∷ bs) at other zero = go (is_white b) (token_at (b ∷ bs)) (λ skip. same_whole bs (at + 1) (other + 1) skip)
+  where
+    go : (w : Bool) (r : Option (Token × ℕ)) → ((skip : ℕ) → (tokens_from (at + 1) skip bs).whole ≡ (tokens_from (other + 1) skip bs).whole) →
+        (placed at bs w r).whole ≡ (placed other bs w r).whole
+    go true r rest = rest 0
+    go false None rest = refl
+    go false (Some token) rest = rest (token.1 - 1)
 
 -- white space to the end
 pub white_to_end : (bs : List ℕ) (at : ℕ) → IsTrue (list_all is_white bs) → tokens_from at 0 bs ≡ no_tokens true

@@ -15,3 +15,5 @@ pub mod Collecting
 pub mod ReadRight
 pub mod BuiltRight
 pub mod Readers
+pub mod Fronts
+pub mod GivesUp

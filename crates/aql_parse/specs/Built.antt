@@ -149,8 +149,12 @@ remove_of (Word KRELATION ∷ ts) nodes = option_map (λ r. command.RemoveRelati
 remove_of (Word KINDEX ∷ ts) nodes = unindex_of ts
 remove_of _ nodes = None
 
+-- the INSERT of the values among some tokens
+abbrev pub insert_into : List Token → List ℕ → Option Command
+insert_into ts relation = option_map (λ values. command.Insert values relation) (at_most_8 (values_in false ts))
+
 abbrev pub insert_of : List Token → Option Command
-insert_of ts = option_and_then (λ relation. option_map (λ values. command.Insert values relation) (at_most_8 (values_in false ts))) (relation_in ts)
+insert_of ts = option_and_then (insert_into ts) (relation_in ts)
 
 abbrev pub select_of : List Token → List Node → Option Query
 select_of ts nodes = option_and_then (λ relation. option_map (λ list. query.Select list relation nodes) (at_most_8 (name_tokens ts))) (relation_in ts)

@@ -4,3 +4,4 @@ pub mod Moves
 pub mod Built
 pub mod ReadAs
 pub mod Codes
+pub mod Inserts

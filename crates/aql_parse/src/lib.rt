@@ -6,6 +6,7 @@ mod codes;
 mod conditions;
 mod head;
 mod heads;
+mod inserts;
 mod items;
 mod laws;
 mod lists;

@@ -10,6 +10,7 @@ ghost use Rattle.db_model.specs.Spelling.{nodes_of};
 
 use crate::built::command_of;
 use crate::head::Head;
+use crate::inserts::read_insert;
 use crate::machine::recognize;
 use crate::nodes::Nodes;
 use crate::stack::Stack;
@@ -46,6 +47,9 @@ impl Parser {
         ensures same { OnErr result (command.new ≡ command.old) }
     {
         conditions_are_read_back();
+        if read_insert(bytes, &mut self.head, command) {
+            return Ok(());
+        }
         if let Err(at) = recognize(bytes, &mut self.head, &mut self.stack, &mut self.nodes) {
             return Err(Refusal::Syntax { at });
         }
