@@ -7,26 +7,26 @@ use Rattle.coffee_merge.specs.Torn.{BreaksOff, IsTorn, IsTornAlone, TearsCollect
 use Rattle.coffee_merge.proofs.Holdings.{holds_tiled}
 use Rattle.coffee_space.specs.Cutting.{IsCutCollection}
 use Rattle.coffee_cuts.specs.Mending.{IsTable, MendsToTable}
-use Rattle.coffee_cuts.proofs.Collections.{cut_off_mends, kept_mends}
+use Rattle.coffee_cuts.proofs.Collections.{cut_off_settles, kept_settles}
 use Rattle.coffee_cuts.proofs.Commits.{copied_mends}
 use Rattle.coffee_cuts.proofs.Drafts.{drafted_mends, written_mends}
-use Rattle.coffee_cuts.proofs.Headers.{torn_header_mends}
+use Rattle.coffee_cuts.proofs.Headers.{torn_header_settles}
 use Rattle.coffee_cuts.proofs.Logs.{naming_mends, torn_log_mends}
-use Rattle.coffee_cuts.proofs.Mended.{file_stays, mends_as, whole_mends}
+use Rattle.coffee_cuts.proofs.Mended.{SettlesHolding, file_stays, mends_as, settling_mends, whole_mends}
 
 held_mends : (whole : List ℕ) (table : Entries) (draft : Option FileAt) → IsTable whole table draft → MendsToTable whole whole table
 held_mends whole table None t = whole_mends whole table t
 held_mends whole table (Some d) t = drafted_mends whole table d t
 
-collection_mends : (whole new : List ℕ) (table : Entries) → IsTable whole table None → length new ≡ length whole → IsCutCollection nowhere whole new (units_of whole) → MendsToTable new whole table
-collection_mends whole new table t long (inl kept) = kept_mends whole new table t long kept
-collection_mends whole new table t long (inr c) = cut_off_mends whole new table t c
+pub collection_settles : (whole new : List ℕ) (table : Entries) → IsTable whole table None → length new ≡ length whole → IsCutCollection nowhere whole new (units_of whole) → SettlesHolding new whole table
+collection_settles whole new table t long (inl kept) = kept_settles whole new table t long kept
+collection_settles whole new table t long (inr c) = cut_off_settles whole new table t c
 
 pub torn_collection_mends : (whole new : List ℕ) (table : Entries) → IsTable whole table None → length new ≡ length whole → TearsCollection whole new → MendsToTable new whole table
-torn_collection_mends whole new table t long c = collection_mends whole new table t long (c.cut (units_of whole) (holds_tiled whole table None t.holds))
+torn_collection_mends whole new table t long c = settling_mends new whole table None t (collection_settles whole new table t long (c.cut (units_of whole) (holds_tiled whole table None t.holds)))
 
 pub torn_extent_mends : (whole new : List ℕ) (table : Entries) → IsTable whole table None → TearsHeader whole new → MendsToTable new whole table
-torn_extent_mends whole new table t c = torn_header_mends whole new table t c.page c.header c.valid (inl c.begun) c.some c.run c.cut
+torn_extent_mends whole new table t c = settling_mends new whole table None t (torn_header_settles whole new table t c.page c.header c.valid (inl c.begun) c.some c.run c.cut)
 
 alone_mends : (whole new : List ℕ) (table : Entries) → IsTable whole table None → length new ≡ length whole → IsTornAlone whole new table → MendsToTable new whole table
 alone_mends whole new table t long (inl c) = torn_collection_mends whole new table t long c

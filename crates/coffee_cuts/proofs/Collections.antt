@@ -19,18 +19,18 @@ use Rattle.coffee_space.specs.Collection.{KeepsActive, active_extents}
 use Rattle.coffee_space.specs.Cutting.{IsCutOff, IsLoose, begun_pages}
 use Rattle.padded.proofs.Facts.{eq_true}
 use Rattle.coffee_cuts.specs.Cuts.{Nothing}
-use Rattle.coffee_cuts.specs.Mending.{IsTable, MendsToTable}
-use Rattle.coffee_cuts.proofs.EraseCuts.{begun_mends, sector_inside, settled_mends, untaken}
+use Rattle.coffee_cuts.specs.Mending.{IsTable}
+use Rattle.coffee_cuts.proofs.EraseCuts.{begun_settled, sector_inside, same_settled, untaken}
 use Rattle.coffee_cuts.proofs.Fronts.{Boundary, Spanned, bound_or_spanned}
-use Rattle.coffee_cuts.proofs.Mended.{mends_holding}
+use Rattle.coffee_cuts.proofs.Mended.{SettlesHolding, settles_by}
 use Rattle.coffee_cuts.proofs.Reached.{same_unit}
 
 -- an image that has the same active extents
-pub kept_mends : (whole new : List ℕ) (table : Entries) → IsTable whole table None → length new ≡ length whole → KeepsActive nowhere whole new (units_of whole) → MendsToTable new whole table
-kept_mends whole new table t long k = mends_holding new whole table None Nothing t tt (obtained whole new table t.holds long k.tiled k.extents k.active)
+pub kept_settles : (whole new : List ℕ) (table : Entries) → IsTable whole table None → length new ≡ length whole → KeepsActive nowhere whole new (units_of whole) → SettlesHolding new whole table
+kept_settles whole new table t long k = settles_by new whole table None Nothing t tt (obtained whole new table t.holds long k.tiled k.extents k.active)
 
 -- the pages of a unit are marked by the sector in which it begins
-begun_mark : (sector : ℕ) (us : List Unit) (from page i : ℕ) (u : Unit) → HavePages us → unit_begun us from page ≡ Some u → page ≤ from + i → from + i < page + size_of u → get_or (begun_pages sector from us) i false ≡ (page / 16 == sector)
+pub begun_mark : (sector : ℕ) (us : List Unit) (from page i : ℕ) (u : Unit) → HavePages us → unit_begun us from page ≡ Some u → page ≤ from + i → from + i < page + size_of u → get_or (begun_pages sector from us) i false ≡ (page / 16 == sector)
 begun_mark sector [] from page i u h is low high = cc
 begun_mark sector (v ∷ vs) from page i u h is low high = ⊎_elim
     (λ (here : from ≡ page).
@@ -101,10 +101,10 @@ module _ (whole new : List ℕ) (table : Entries) (t : IsTable whole table None)
       (begun_mark c.sector vs 0 page p (Extent h) pages extent (omega (arith, here, low)) (omega (arith, high)) ∙ eq_true (page / 16) c.sector here)
 
   -- a unit begins at the sector
-  bound_mends : Boundary vs (16 * c.sector) → MendsToTable new whole table
+  bound_mends : Boundary vs (16 * c.sector) → SettlesHolding new whole table
   bound_mends b = by_rest b.rest b.whole
     where
-      by_rest : (rest : List Unit) → vs ≡ b.front ++ rest → MendsToTable new whole table
+      by_rest : (rest : List Unit) → vs ≡ b.front ++ rest → SettlesHolding new whole table
       by_rest [] e =
           let place = b.place in
           let sum : total vs ≡ total b.front + total [] = ap total e ∙ total-append b.front [] in
@@ -115,7 +115,7 @@ module _ (whole new : List ℕ) (table : Entries) (t : IsTable whole table None)
           let place = b.place in
           let pages = have_pages nowhere c.before vs c.kept.tiled in
           let begun : unit_begun vs 0 (total b.front) ≡ Some u = split_begun vs (total b.front) u pages (record { front = b.front; rest = rest; whole = e; place = refl }) in
-          begun_mends whole table t c.sector c.is_taken c.before new b.front rest u done (subst (IsTiled nowhere c.before) e c.kept.tiled) (ap active_extents (sym e) ∙ c.kept.extents)
+          begun_settled whole table t c.sector c.is_taken c.before new b.front rest u done (subst (IsTiled nowhere c.before) e c.kept.tiled) (ap active_extents (sym e) ∙ c.kept.extents)
           long_before long (omega (arith, place)) (omega (arith, place)) (λ k low high. absurd (omega (arith, low, high, place)))
           (λ k less. gone_byte (256 * total b.front + k) (omega (arith, place)) (omega (arith, place, less)))
           (λ k out. ⊎_elim
@@ -139,10 +139,10 @@ module _ (whole new : List ℕ) (table : Entries) (t : IsTable whole table None)
     same = ap active_extents (sym p.whole) ∙ c.kept.extents
 
     -- the cut is in the extent
-    within_mends : at + done ≤ 256 * end → MendsToTable new whole table
+    within_mends : at + done ≤ 256 * end → SettlesHolding new whole table
     within_mends few =
         let low = p.low in
-        settled_mends whole table t c.sector c.is_taken new (p.front ++ (Extent p.header ∷ p.rest)) long
+        same_settled whole table t c.sector c.is_taken new (p.front ++ (Extent p.header ∷ p.rest)) long
         (content_stays nowhere c.before new p.front p.rest p.header parts (long ∙ sym long_before) (λ k out. ⊎_elim
         (λ (a : k < 256 * total p.front + 32). before_byte k (omega (arith, a, low)))
         (λ (b : 256 * (total p.front + p.header.max_pages) ≤ k). behind_byte k (omega (arith, b, few)))
@@ -178,10 +178,10 @@ module _ (whole new : List ℕ) (table : Entries) (t : IsTable whole table None)
       front_total : total front ≡ end
       front_total = let sum = total-append p.front (Extent p.header ∷ []) in omega (arith, sum)
 
-      behind_mends : MendsToTable new whole table
+      behind_mends : SettlesHolding new whole table
       behind_mends = by_rest p.rest refl
         where
-          by_rest : (rest : List Unit) → p.rest ≡ rest → MendsToTable new whole table
+          by_rest : (rest : List Unit) → p.rest ≡ rest → SettlesHolding new whole table
           by_rest [] e =
               let sum : total vs ≡ total p.front + total (Extent p.header ∷ []) = ap total (p.whole ∙ ap (λ r. p.front ++ (Extent p.header ∷ r)) e) ∙ total-append p.front (Extent p.header ∷ []) in
               let all = total_before in
@@ -195,7 +195,7 @@ module _ (whole new : List ℕ) (table : Entries) (t : IsTable whole table None)
               let j = in_sector.0 in
               let pages = have_pages nowhere c.before vs c.kept.tiled in
               let begun : unit_begun vs 0 (total front) ≡ Some u = split_begun vs (total front) u pages (record { front = front; rest = rest; whole = p.whole ∙ whole_is; place = refl }) in
-              begun_mends whole table t c.sector c.is_taken mid new front rest u (at + done - 256 * end) (subst (IsTiled nowhere mid) whole_is mid_tiled) (ap active_extents (sym whole_is) ∙ same)
+              begun_settled whole table t c.sector c.is_taken mid new front rest u (at + done - 256 * end) (subst (IsTiled nowhere mid) whole_is mid_tiled) (ap active_extents (sym whole_is) ∙ same)
               (length_zeros_at c.before at cleared mid_fits ∙ long_before) long (omega (arith, place, j)) (omega (arith, place, i))
               (λ k low high. gone_byte k low (omega (arith, high, place, more)))
               (λ k less. gone_byte (256 * total front + k) (omega (arith, place, j)) (omega (arith, place, less)))
@@ -211,14 +211,14 @@ module _ (whole new : List ℕ) (table : Entries) (t : IsTable whole table None)
               (cases_lt k at))
               active c.again (loose_behind (total front) u (omega (arith, place, i, j)) begun)
 
-    spanned_mends : MendsToTable new whole table
+    spanned_mends : SettlesHolding new whole table
     spanned_mends = ⊎_elim
         (λ (more : 256 * end < at + done). behind_mends more)
         (λ (few : at + done ≤ 256 * end). within_mends few)
         (cases_lt (256 * end) (at + done))
 
-  pub cut_off_mends : MendsToTable new whole table
-  cut_off_mends =
+  pub cut_off_settles : SettlesHolding new whole table
+  cut_off_settles =
       let all = total_before in
       let r = room in
       ⊎_elim bound_mends spanned_mends (bound_or_spanned vs (16 * c.sector) (omega (arith, all, r)))

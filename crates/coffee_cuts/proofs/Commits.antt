@@ -30,7 +30,7 @@ use Rattle.coffee_merge.proofs.SoundHolders.{log_is, placed}
 use Rattle.coffee_merge.proofs.SoundUnits.{Among, among_filter, begun_extent}
 use Rattle.coffee_merge.proofs.Turned.{file_body}
 use Rattle.padded.proofs.Facts.{none_some, some_same}
-use Rattle.coffee_cuts.specs.Cuts.{IsActiveAt, IsFound, Nothing, Replacing, UnderWay, Unnamed, settled}
+use Rattle.coffee_cuts.specs.Cuts.{IsActiveAt, IsFound, IsReplacing, Nothing, Replacing, UnderWay, Unnamed, settled}
 use Rattle.coffee_cuts.specs.Mending.{EndsRight, IsTable, MendsToTable, as_file}
 use Rattle.coffee_cuts.proofs.Drafts.{drafted_mends, off_draft, undrafted}
 use Rattle.coffee_cuts.proofs.Mended.{file_stays, mends_after, mends_holding, mends_same, named, sparing_set, sparing_without, whole_mends}
@@ -187,8 +187,8 @@ module _ (whole : List ℕ) (table : Entries) (d e : FileAt) (i : ℕ) (t : IsTa
   new_mends new w found at = committed_mends new whole table d i w t few last found inside (subst (λ s. CommitsExtent whole s table i d) (sym at) all)
 
   -- the old one has a log, or stands behind: it goes
-  old_goes : (e.log ≡ None → d.page.0 < e.page.0) → MendsToTable both whole after
-  old_goes front = new_mends both (Replacing (placed e) new_placed) (record {
+  pub old_replaced : (e.log ≡ None → d.page.0 < e.page.0) → IsReplacing both (placed e) new_placed
+  old_replaced front = record {
     old_there = old_found;
     new_there = new_found;
     apart = apart;
@@ -196,11 +196,14 @@ module _ (whole : List ℕ) (table : Entries) (d e : FileAt) (i : ℕ) (t : IsTa
     new_has_none = ap log_number no_log;
     before = λ zero. front (none_number e.log zero);
     logged = λ l named. record { header = log_header e.name; there = begun_active (units_of both) l.0 (log_header e.name) (replaced_log whole table d e i l t.holds is (sym (log_is e.log) ∙ named)) refl; flags_are = refl };
-  }) (ap (obsoleted both e.page.0) (log_is e.log))
+  }
     where
       none_number : (log : Option PageId) → log_number log ≡ 0 → log ≡ None
       none_number None z = refl
       none_number (Some l) z = absurd (omega (arith, z))
+
+  old_goes : (e.log ≡ None → d.page.0 < e.page.0) → MendsToTable both whole after
+  old_goes front = new_mends both (Replacing (placed e) new_placed) (old_replaced front) (ap (obsoleted both e.page.0) (log_is e.log))
 
   -- else the new one goes
   abbrev gone : List ℕ
@@ -241,9 +244,11 @@ module _ (whole : List ℕ) (table : Entries) (d e : FileAt) (i : ℕ) (t : IsTa
           (cases_lt e.page.0 d.page.0)
 
   -- the old extent is obsolete, and its log is not yet
+  pub log_unnamed : (l : PageId) → e.log ≡ Some l → IsActiveAt (flagged both e.page.0 4) l.0 19
+  log_unnamed l log = left_log both e l made.tiled old_unit (replaced_log whole table d e i l t.holds is log)
+
   log_left : (l : PageId) → e.log ≡ Some l → MendsToTable (flagged both e.page.0 4) whole after
-  log_left l log =
-      new_mends (flagged both e.page.0 4) (Unnamed l.0) (left_log both e l made.tiled old_unit (replaced_log whole table d e i l t.holds is log)) (ap (obsoleted both e.page.0) (sym log))
+  log_left l log = new_mends (flagged both e.page.0 4) (Unnamed l.0) (log_unnamed l log) (ap (obsoleted both e.page.0) (sym log))
 
   half_mends : MendsToTable (flagged both e.page.0 4) whole after
   half_mends = by_log e.log refl

@@ -25,7 +25,7 @@ use Rattle.coffee_merge.proofs.Turned.{file_and_draft, file_body}
 use Rattle.padded.proofs.Facts.{none_is_some, none_some, some_same}
 use Rattle.coffee_cuts.specs.Cuts.{Building, IsActiveAt}
 use Rattle.coffee_cuts.specs.Mending.{IsTable, MendsToTable}
-use Rattle.coffee_cuts.proofs.Mended.{mends_holding}
+use Rattle.coffee_cuts.proofs.Mended.{SettlesHolding, settles_by, settling_mends}
 
 -- the extents of a file do not begin where the draft does
 pub off_draft : (old : List ℕ) (table : Entries) (d e : FileAt) (i q : ℕ) → HoldsTable old table (Some d) → IsIn table i e → has_extent_at q (Some e) ≡ true → q ≢ d.page.0
@@ -80,8 +80,11 @@ pub draft_found : (image : List ℕ) (table : Entries) (d : FileAt) → HoldsTab
 draft_found image table d h = record { header = draft_header d; there = h.begun d refl; flags_are = refl }
 
 -- a draft stands, and nothing is torn
+pub drafted_settles : (whole : List ℕ) (table : Entries) (d : FileAt) → IsTable whole table (Some d) → SettlesHolding whole whole table
+drafted_settles whole table d t = settles_by whole whole table (Some d) (Building d.page.0) t (draft_found whole table d t.holds) (draft_dropped whole table d t.holds)
+
 pub drafted_mends : (whole : List ℕ) (table : Entries) (d : FileAt) → IsTable whole table (Some d) → MendsToTable whole whole table
-drafted_mends whole table d t = mends_holding whole whole table (Some d) (Building d.page.0) t (draft_found whole table d t.holds) (draft_dropped whole table d t.holds)
+drafted_mends whole table d t = settling_mends whole whole table (Some d) t (drafted_settles whole table d t)
 
 -- A DRAFT THAT WAS WRITTEN TO
 
@@ -169,9 +172,12 @@ module _ (old new : List ℕ) (table : Entries) (d : FileAt) (h : HoldsTable old
       }))
 
 -- a draft that was written to
-pub written_mends : (whole new : List ℕ) (table : Entries) (d : FileAt) → IsTable whole table (Some d) → length new ≡ length whole → KeepsHead whole new d.page.0 → KeepsPagesBut whole new d.page.0 d.pages None → MendsToTable new whole table
-written_mends whole new table d t long head others =
+pub written_settles : (whole new : List ℕ) (table : Entries) (d : FileAt) → IsTable whole table (Some d) → length new ≡ length whole → KeepsHead whole new d.page.0 → KeepsPagesBut whole new d.page.0 d.pages None → SettlesHolding new whole table
+written_settles whole new table d t long head others =
     let held = written_held whole new table d t.holds long head others in
     let dropped = draft_dropped new table (roomy d) held in
-    mends_holding new whole table (Some d) (Building d.page.0) t (draft_found new table (roomy d) held)
+    settles_by new whole table (Some d) (Building d.page.0) t (draft_found new table (roomy d) held)
     (record { holds = dropped.holds; kept = kept_then whole new (flagged new d.page.0 5) table (bodies_kept whole new table long (written_bodies whole new table d t.holds long head others)) dropped.kept })
+
+pub written_mends : (whole new : List ℕ) (table : Entries) (d : FileAt) → IsTable whole table (Some d) → length new ≡ length whole → KeepsHead whole new d.page.0 → KeepsPagesBut whole new d.page.0 d.pages None → MendsToTable new whole table
+written_mends whole new table d t long head others = settling_mends new whole table (Some d) t (written_settles whole new table d t long head others)

@@ -30,9 +30,9 @@ use Rattle.flash_range.specs.Range.{Outside}
 use Rattle.padded.specs.Zeros.{is_zeros}
 use Rattle.padded.proofs.Facts.{both_parts, false_by, lt_false, neither, true_eq, yes_no}
 use Rattle.coffee_cuts.specs.Cuts.{Erasing, IsHeadless, IsIdle, Nothing}
-use Rattle.coffee_cuts.specs.Mending.{IsTable, MendsToTable}
+use Rattle.coffee_cuts.specs.Mending.{IsTable}
 use Rattle.coffee_cuts.proofs.Fronts.{actives, actives_append, idle_extent, marked_by, stand_append, stand_kept, walk_front}
-use Rattle.coffee_cuts.proofs.Mended.{mends_holding}
+use Rattle.coffee_cuts.proofs.Mended.{SettlesHolding, settles_by}
 use Rattle.coffee_cuts.proofs.Reached.{same_unit}
 use Rattle.coffee_cuts.proofs.ZeroPages.{free_page, zero_part, zeros_from}
 use Rattle.coffee_cuts.proofs.ZeroedHeads.{IsZeroed, zeroed_extent, zeroed_isolated}
@@ -98,11 +98,11 @@ module _ (whole : List ℕ) (table : Entries) (t : IsTable whole table None) (se
       untaken p (active_marks (units_of whole) page h (sym (active_same vs (units_of whole) page pages (holds_pages whole table None t.holds) same) ∙ is) p low high) here
 
   -- an image of the same active extents
-  pub settled_mends : (new : List ℕ) (vs : List Unit) → length new ≡ length whole → IsTiled nowhere new vs → active_extents vs ≡ active_extents (units_of whole)
-      → ((p : ℕ) → get_or (active_pages (units_of whole)) p false ≡ true → page_bytes new p ≡ page_bytes whole p) → MendsToTable new whole table
-  settled_mends new vs long tiled same active =
+  pub same_settled : (new : List ℕ) (vs : List Unit) → length new ≡ length whole → IsTiled nowhere new vs → active_extents vs ≡ active_extents (units_of whole)
+      → ((p : ℕ) → get_or (active_pages (units_of whole)) p false ≡ true → page_bytes new p ≡ page_bytes whole p) → SettlesHolding new whole table
+  same_settled new vs long tiled same active =
       let units : units_of new ≡ vs = units_tiled nowhere new vs tiled in
-      mends_holding new whole table None Nothing t tt (obtained whole new table t.holds long (subst (IsTiled nowhere new) (sym units) tiled) (ap active_extents units ∙ same) active)
+      settles_by new whole table None Nothing t tt (obtained whole new table t.holds long (subst (IsTiled nowhere new) (sym units) tiled) (ap active_extents units ∙ same) active)
 
   -- WHERE A UNIT BEGINS IN THE SECTOR
 
@@ -178,11 +178,11 @@ module _ (whole : List ℕ) (table : Entries) (t : IsTable whole table None) (se
         idle_at walk pages again.extents m.page m.header (begun_active walk m.page m.header m.begun m.active) i (omega (arith, low)) (omega (arith, high)) (omega (arith, a, b))))
 
     -- the page is blank: the sector is erased again
-    erasing_mends : IsHeadless new page → MendsToTable new whole table
+    erasing_mends : IsHeadless new page → SettlesHolding new whole table
     erasing_mends blank =
         let i = inside in
         let size = length_range new (4096 * sector) (256 * page) (omega (arith, within, i)) in
-        mends_holding new whole table None (Erasing sector page) t (record {
+        settles_by new whole table None (Erasing sector page) t (record {
           inside = inside;
           from = from;
           within = within;
@@ -222,10 +222,10 @@ module _ (whole : List ℕ) (table : Entries) (t : IsTable whole table None) (se
 
     -- a unit of its size takes its place
     turned_mends : (v : Unit) → r ≤ 9 → size_of v ≡ size_of u → is_free v ≡ false → unit_at new page ≡ Some v → broken_at nowhere new page (ends_free false front) ≡ None
-        → actives page (v ∷ rest) ≡ actives page (u ∷ rest) → MendsToTable new whole table
+        → actives page (v ∷ rest) ≡ actives page (u ∷ rest) → SettlesHolding new whole table
     turned_mends v few size used there kept act =
         let least = some in
-        settled_mends new (front ++ (v ∷ rest)) long
+        same_settled new (front ++ (v ∷ rest)) long
         (replaced nowhere nowhere mid new front (u ∷ []) rest v tiled (long ∙ sym long_mid)
         (λ q out. other_page q few (λ e. ⊎_elim (λ (a : q < total front). omega (arith, a, e)) (λ (a : total front + (size_of u + 0) ≤ q). omega (arith, a, e, least)) out))
         (λ q out. refl) (omega (arith, size)) used there kept)
@@ -235,7 +235,7 @@ module _ (whole : List ℕ) (table : Entries) (t : IsTable whole table None) (se
     ninth_zero more = inl (gone 9 more)
 
     -- a free page
-    free_mends : u ≡ Free → MendsToTable new whole table
+    free_mends : u ≡ Free → SettlesHolding new whole table
     free_mends is = ⊎_elim
         (λ (more : 9 < r). erasing_mends (ninth_zero more))
         (λ (few : r ≤ 9).
@@ -244,7 +244,7 @@ module _ (whole : List ℕ) (table : Entries) (t : IsTable whole table None) (se
         (cases_lt 9 r)
 
     -- an isolated page
-    isolated_mends : u ≡ Isolated → MendsToTable new whole table
+    isolated_mends : u ≡ Isolated → SettlesHolding new whole table
     isolated_mends is = ⊎_elim
         (λ (more : 9 < r). erasing_mends (ninth_zero more))
         (λ (few : r ≤ 9).
@@ -295,7 +295,7 @@ module _ (whole : List ℕ) (table : Entries) (t : IsTable whole table None) (se
           ap (broken_unit false (is_zeros (page_bytes new page)) (pages_of new) page (ends_free false front)) there
           ∙ extent_rule (is_zeros (page_bytes new page)) (pages_of new) page (ends_free false front) g (ap is_active_flags flags ∙ not_active) least (omega (arith, e, p, few)) rules.1
 
-      same_pages : (g : Header) → r ≤ 9 → g.flags ≡ h.flags → g.max_pages ≡ h.max_pages → unit_at new page ≡ Some (Extent g) → MendsToTable new whole table
+      same_pages : (g : Header) → r ≤ 9 → g.flags ≡ h.flags → g.max_pages ≡ h.max_pages → unit_at new page ≡ Some (Extent g) → SettlesHolding new whole table
       same_pages g few flags pages there =
           let least = some in
           let size = size_is in
@@ -360,10 +360,10 @@ module _ (whole : List ℕ) (table : Entries) (t : IsTable whole table None) (se
             ∙ sym (actives_append (front ++ middle.units) tail.0 0 end (omega (arith, total_middle)))
             ∙ ap active_extents (sym tail.1) ∙ again.extents
 
-        fewer_mends : MendsToTable new whole table
-        fewer_mends = settled_mends new (front ++ (Extent g ∷ tail.0)) long fewer_tiled fewer_active active
+        fewer_mends : SettlesHolding new whole table
+        fewer_mends = same_settled new (front ++ (Extent g ∷ tail.0)) long fewer_tiled fewer_active active
 
-      extent_mends : MendsToTable new whole table
+      extent_mends : SettlesHolding new whole table
       extent_mends = ⊎_elim
           (λ (more : 9 < r). erasing_mends (ninth_zero more))
           (λ (few : r ≤ 9).
@@ -378,10 +378,10 @@ module _ (whole : List ℕ) (table : Entries) (t : IsTable whole table None) (se
           (cases_lt 9 r)
 
     -- in each case
-    pub begun_mends : MendsToTable new whole table
-    begun_mends = by_unit u refl
+    pub begun_settled : SettlesHolding new whole table
+    begun_settled = by_unit u refl
       where
-        by_unit : (v : Unit) → u ≡ v → MendsToTable new whole table
+        by_unit : (v : Unit) → u ≡ v → SettlesHolding new whole table
         by_unit Free e = free_mends e
         by_unit Isolated e = isolated_mends e
         by_unit (Extent h) e = extent_mends h e

@@ -39,9 +39,9 @@ use Rattle.flash_range.proofs.Ranges.{or_on_zero, or_outside}
 use Rattle.padded.proofs.Facts.{eq_true, false_right, none_some, yes_no}
 use Rattle.padded.specs.Zeros.{is_zeros}
 use Rattle.coffee_cuts.specs.Cuts.{Beginning, Building, IsTornHeader, Unnamed}
-use Rattle.coffee_cuts.specs.Mending.{IsTable, MendsToTable}
+use Rattle.coffee_cuts.specs.Mending.{IsTable}
 use Rattle.coffee_cuts.proofs.HeaderFronts.{IsFrontOf, free_head, front_whole, part_header}
-use Rattle.coffee_cuts.proofs.Mended.{mends_holding, whole_mends}
+use Rattle.coffee_cuts.proofs.Mended.{SettlesHolding, settles_by, whole_settles}
 use Rattle.coffee_cuts.proofs.ZeroPages.{free_pages_zero, zero_part, zeros_from}
 use Rattle.coffee_merge.proofs.Beginning.{lowest_front as front_used}
 
@@ -272,24 +272,24 @@ module _ (whole new : List ℕ) (table : Entries) (t : IsTable whole table None)
         least,
       )
 
-  settled_header : (g : Header) → unit_at new page ≡ Some (Extent g) → (h.flags ≡ 2) ⊎ (h.flags ≡ 19) → MendsToTable new whole table
+  settled_header : (g : Header) → unit_at new page ≡ Some (Extent g) → (h.flags ≡ 2) ⊎ (h.flags ≡ 19) → SettlesHolding new whole table
   settled_header g is (inl two) =
       let b = part_begun (λ q. page == q) g is (ap is_active_flags two) (false_right (h.flags == 2) (not (page == page)) (ap not (eq_true page page refl))) (λ q other. sym (eq_false page q (λ e. other (sym e)))) in
       let flag : g.flags ≡ 2 = b.1 ∙ two in
-      mends_holding new whole table None (Building page) t (record { header = g; there = b.0.here; flags_are = flag })
+      settles_by new whole table None (Building page) t (record { header = g; there = b.0.here; flags_are = flag })
       (begun_settles (λ q. page == q) whole new table page 5 g t.holds long b.2 b.0 (ap (λ n. is_flags (bit_or n 5)) flag) (ap (λ n. bit_or n 5 == 2) flag) (ap (λ n. is_active_flags (bit_or n 5)) flag) (λ q other. eq_false page q (λ e. other (sym e))))
   settled_header g is (inr nineteen) =
       let b = part_begun nowhere g is (ap is_active_flags nineteen) (ap (λ n. n == 2 && true) nineteen) (λ q other. refl) in
       let flag : g.flags ≡ 19 = b.1 ∙ nineteen in
-      mends_holding new whole table None (Unnamed page) t (record { header = g; there = b.0.here; flags_are = flag })
+      settles_by new whole table None (Unnamed page) t (record { header = g; there = b.0.here; flags_are = flag })
       (begun_settles nowhere whole new table page 4 g t.holds long b.2 b.0 (ap (λ n. is_flags (bit_or n 4)) flag) (ap (λ n. bit_or n 4 == 2) flag) (ap (λ n. is_active_flags (bit_or n 4)) flag) (λ q other. refl))
 
-  by_unit : (o : Option Unit) → unit_at new page ≡ o → MendsToTable new whole table
-  by_unit None is = mends_holding new whole table None (Beginning page) t (torn_found is) isolated_stays
-  by_unit (Some Free) is = subst (λ image. MendsToTable image whole table) (sym (none_done (free_head head is))) (whole_mends whole table t)
+  by_unit : (o : Option Unit) → unit_at new page ≡ o → SettlesHolding new whole table
+  by_unit None is = settles_by new whole table None (Beginning page) t (torn_found is) isolated_stays
+  by_unit (Some Free) is = subst (λ image. SettlesHolding image whole table) (sym (none_done (free_head head is))) (whole_settles whole table t)
   by_unit (Some Isolated) is = absurd (front_whole h head cut.done valid flags is_front is)
   by_unit (Some (Extent g)) is = settled_header g is flags
 
   -- in each case the image mends to the files of the table
-  pub torn_header_mends : MendsToTable new whole table
-  torn_header_mends = by_unit (unit_at new page) refl
+  pub torn_header_settles : SettlesHolding new whole table
+  torn_header_settles = by_unit (unit_at new page) refl

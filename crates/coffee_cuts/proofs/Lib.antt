@@ -1,12 +1,12 @@
 mod AlikeFiles
 pub mod BrokenOff
-mod Collections
+pub mod Collections
 pub mod Commits
 pub mod Drafts
-mod EraseCuts
+pub mod EraseCuts
 mod Fronts
 mod HeaderFronts
-mod Headers
+pub mod Headers
 mod Logs
 pub mod MarkedPages
 pub mod Mended

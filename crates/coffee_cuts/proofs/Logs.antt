@@ -25,8 +25,8 @@ use Rattle.coffee_merge.proofs.Numbered.{numbered, numbered_extent}
 use Rattle.coffee_cuts.specs.Cuts.{IsActiveAt, IsFound, Naming, Nothing, UnderWay, settled}
 use Rattle.coffee_cuts.specs.Mending.{IsTable, MendsToTable}
 use Rattle.coffee_cuts.proofs.HeaderFronts.{header_name}
-use Rattle.coffee_cuts.proofs.Headers.{torn_header_mends}
-use Rattle.coffee_cuts.proofs.Mended.{mends_moved}
+use Rattle.coffee_cuts.proofs.Headers.{torn_header_settles}
+use Rattle.coffee_cuts.proofs.Mended.{mends_moved, settling_mends}
 use Rattle.coffee_cuts.proofs.Reached.{kept_at}
 use Rattle.coffee_merge.proofs.Logged.{log_valid}
 
@@ -38,7 +38,7 @@ held_name image table i e h is =
 
 pub torn_log_mends : (whole new : List ℕ) (table : Entries) → IsTable whole table None → TearsLogHeader whole new table → MendsToTable new whole table
 torn_log_mends whole new table t c =
-    torn_header_mends whole new table t c.log (log_header c.e.name) (log_valid c.e.name (held_name whole table c.place c.e t.holds c.there)) (inr refl) (omega arith) c.run c.cut
+    settling_mends new whole table None t (torn_header_settles whole new table t c.log (log_header c.e.name) (log_valid c.e.name (held_name whole table c.place c.e t.holds c.there)) (inr refl) (omega arith) c.run c.cut)
 
 -- all of it
 whole_program : (old : List ℕ) (at : ℕ) (bytes : List ℕ) → length bytes ≡ 32 → IsCutProgram old (or_at old at bytes) at bytes
@@ -99,8 +99,8 @@ module _ (whole new : List ℕ) (table : Entries) (t : IsTable whole table None)
   -- the log is there, and the file does not name it
   log_mends : MendsToTable one whole table
   log_mends =
-      torn_header_mends whole one table t log.0 (log_header e.name) (log_valid e.name good) (inr refl) (omega arith) n.run
-      (whole_program whole (256 * log.0) (header_bytes (log_header e.name)) (length-header_bytes (log_header e.name) good))
+      settling_mends one whole table None t (torn_header_settles whole one table t log.0 (log_header e.name) (log_valid e.name good) (inr refl) (omega arith) n.run
+      (whole_program whole (256 * log.0) (header_bytes (log_header e.name)) (length-header_bytes (log_header e.name) good)))
 
   -- the file has the number of the log, and not the flag
   numbered_found : IsActiveAt two e.page.0 3

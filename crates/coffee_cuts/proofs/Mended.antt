@@ -42,6 +42,21 @@ pub mends_holding : (new whole : List ℕ) (table : Entries) (draft : Option Fil
 mends_holding new whole table draft w t found stays =
     mends_with new whole (settled new w) table draft w t.holds found (held_sound (settled new w) table stays.holds t.few t.sparing) stays (record { kept = λ f has. has; only = λ f has. has })
 
+-- an image that, once settled, holds a table with the content that its files have in another image
+pub record SettlesHolding (new whole : List ℕ) (table : Entries) : Type 0 where
+  pub way : UnderWay
+  pub found : IsFound new way
+  pub stays : Stays whole (settled new way) table
+
+pub settles_by : (new whole : List ℕ) (table : Entries) (draft : Option FileAt) (w : UnderWay) → IsTable whole table draft → IsFound new w → Stays whole (settled new w) table → SettlesHolding new whole table
+settles_by new whole table draft w t found stays = record { way = w; found = found; stays = stays }
+
+pub settling_mends : (new whole : List ℕ) (table : Entries) (draft : Option FileAt) → IsTable whole table draft → SettlesHolding new whole table → MendsToTable new whole table
+settling_mends new whole table draft t s = mends_holding new whole table draft s.way t s.found s.stays
+
+pub whole_settles : (whole : List ℕ) (table : Entries) → IsTable whole table None → SettlesHolding whole whole table
+whole_settles whole table t = settles_by whole whole table None Nothing t tt (record { holds = t.holds; kept = λ i e is p within. refl })
+
 -- nothing is under way
 pub whole_mends : (whole : List ℕ) (table : Entries) → IsTable whole table None → MendsToTable whole whole table
 whole_mends whole table t = mends_holding whole whole table None Nothing t tt (record { holds = t.holds; kept = λ i e is p within. refl })

@@ -32,15 +32,14 @@ use Rattle.coffee_merge.proofs.SoundUnits.{among_filter, begun_extent}
 use Rattle.coffee_cuts.specs.Cuts.{IsActiveAt}
 use Rattle.coffee_cuts.proofs.TornLogs.{IsTornAt as IsTornLog, begun as begun_zero, torn_files as files_of_torn}
 use Rattle.coffee_find.specs.Found.{IsTornAt}
-use Rattle.coffee_mend.specs.Joined.{IsJoined, LacksRoom, OwnsLog, old_log_header}
+use Rattle.coffee_mend.specs.Joined.{IsJoined, IsSameBut, LacksRoom, OwnsLog, old_log_header}
 use Rattle.coffee_mend.specs.Mended.{IsTornAs}
-use Rattle.flash_views.specs.Views.{IsSameBut}
 
 pub same_then : (a b c : List ℕ) → SameFiles a b → SameFiles b c → SameFiles a c
 same_then a b c f g = record { kept = λ x has. g.kept x (f.kept x has); only = λ x has. f.only x (g.only x has) }
 
 -- the image with zeros in the place of these bytes is the other one, where they are zero there
-zeros_beside : (shown image : List ℕ) (place : ℕ) → IsSameBut shown image place → ((k : ℕ) → place ≤ k → k < place + 128 → get_or shown k 0 ≡ 0) → zeros_at image place 128 ≡ shown
+pub zeros_beside : (shown image : List ℕ) (place : ℕ) → IsSameBut shown image place → ((k : ℕ) → place ≤ k → k < place + 128 → get_or shown k 0 ≡ 0) → zeros_at image place 128 ≡ shown
 zeros_beside shown image place but zero =
     let inside = but.inside in
     let fits : place + 128 ≤ length image = omega (arith, inside, but.size) in
@@ -115,7 +114,7 @@ torn_files image log place whole inside t =
     files_of_torn image log place whole inside torn
 
 -- the table of a log has none of its records
-table_same : (image : List ℕ) (log place : ℕ) → place + 128 ≤ length image → 256 * log + 96 ≤ place → table_of image log ≡ table_of (zeros_at image place 128) log
+pub table_same : (image : List ℕ) (log place : ℕ) → place + 128 ≤ length image → 256 * log + 96 ≤ place → table_of image log ≡ table_of (zeros_at image place 128) log
 table_same image log place inside low = sym (zeros_at_range image place 128 (256 * log + 32) (256 * log + 92) inside (inl (omega (arith, low))))
 
 same_by : (a b c d : List ℕ) → files_of a ≡ files_of b → SameFiles b c → files_of d ≡ files_of c → SameFiles a d

@@ -1,5 +1,5 @@
 -- A file that is put together with its log: a new extent, the copy of the file into it, and three flags.
-use Rattle.std.proofs.Common.{length, map, true, false, suc, inl, inr, [], ◌∷◌, ◌++◌, replicate, ⊎_elim, ◌≡◌, ◌≢◌, ℕ, ◌+◌, ◌-◌, ◌*◌, ◌≤◌, ◌<◌, ◌==◌, List, Some, None, bit_or, refl, ap, sym, subst, ◌∙◌, arith}
+use Rattle.std.proofs.Common.{length, map, true, false, suc, inl, inr, [], ◌∷◌, ◌++◌, replicate, ◌≡◌, ◌≢◌, ℕ, ◌-◌, ◌*◌, ◌≤◌, ◌<◌, ◌==◌, List, Some, None, bit_or, refl, ap, sym, subst, ◌∙◌, arith}
 use Rattle.afl_base.specs.declared.ids.PageId.{PageId}
 use Rattle.coffee_header.specs.Headers.{is_flags}
 use Rattle.coffee_header.specs.declared.header.Header.{Header}
@@ -8,34 +8,32 @@ use Rattle.coffee_layout.specs.Files.{Placed, entry_of, extents, files_in, is_lo
 use Rattle.coffee_layout.specs.Rules.{broken_image}
 use Rattle.coffee_layout.specs.Tiling.{IsTiled, nowhere, units_of}
 use Rattle.coffee_layout.specs.Units.{pages_of}
-use Rattle.coffee_layout.specs.Walks.{has_few}
 use Rattle.coffee_layout.specs.declared.file.FileAt.{FileAt}
 use Rattle.coffee_layout.specs.declared.unit.Unit.TheVariants.{Extent}
 use Rattle.coffee_cuts.specs.Cuts.{IsActiveAt}
+use Rattle.coffee_cuts.specs.Mending.{IsTable}
+use Rattle.coffee_cuts.proofs.Mended.{sparing_set}
 use Rattle.coffee_merge.specs.Begun.{unit_begun}
 use Rattle.coffee_merge.proofs.Begun.{active_begun}
 use Rattle.coffee_merge.proofs.SoundHolders.{entry_among, entry_is, log_holder, placed}
 use Rattle.coffee_merge.proofs.SoundUnits.{Among, among_filter, begun_extent}
 use Rattle.coffee_merge.specs.Flags.{flagged, obsoleted}
-use Rattle.coffee_merge.specs.Holding.{CommitsExtent, Entries, HoldsTable, IsIn, extent_of, file_flags, file_header, has_shape, log_header, log_number}
-use Rattle.coffee_merge.specs.Outcomes.{BeginsFile, CopiesFile}
+use Rattle.coffee_merge.specs.Holding.{CommitsExtent, Entries, HoldsTable, IsIn, KeepsContents, extent_of, file_flags, file_header, has_shape, log_header, log_number}
 use Rattle.coffee_merge.proofs.Commits.{replaced_file, replaced_log, replaces, valid}
 use Rattle.coffee_merge.proofs.Marked.{flagged_extent}
-use Rattle.coffee_merge.proofs.Holdings.{is_in_set}
-use Rattle.coffee_merge.proofs.MovedFiles.{held_listed, moves_files}
-use Rattle.coffee_merge.proofs.SoundTables.{sound_few, sound_held, sound_sparing}
-use Rattle.padded.proofs.Facts.{eq_true, some_same}
+use Rattle.coffee_merge.proofs.MovedFiles.{moves_files}
+use Rattle.coffee_merge.proofs.SoundTables.{sound_held}
+use Rattle.padded.proofs.Facts.{eq_true}
 use Rattle.std.specs.List.{All, Contains}
 use Rattle.std.specs.Prelude.{set}
-use Rattle.std.proofs.lemmas.List.{length-append, length-map, length-set}
+use Rattle.std.proofs.lemmas.List.{length-set}
 use Rattle.afl_base.specs.FileErrors.{OnSpace}
 use Rattle.afl_base.specs.declared.kind.FileError.{FileError}
 use Rattle.afl_base.specs.declared.kind.FileError.TheVariants.{Space, Failed}
 use Rattle.std.specs.Prelude.{Result, Ok, Err}
-use Rattle.coffee_merge.specs.Outcomes.{LeavesAll}
 use Rattle.coffee_merge.proofs.MovedFiles.{stays_files}
 use Rattle.coffee_merge.proofs.SoundLogs.{used_is}
-use Rattle.coffee_mend.specs.Joined.{LacksRoom, IsJoined, JoinsFile, joined_at, old_log_header}
+use Rattle.coffee_mend.specs.Joined.{LacksRoom, LeavesFiles, IsJoined, JoinsFile, joined_at, old_log_header}
 use Rattle.coffee_merge.proofs.Retired.{one_flags as same_flags}
 
 -- OBSOLETE in the headers of a file and of its log: the log stands, and is obsolete
@@ -48,58 +46,51 @@ log_gone image page log g name tiled here eleven there =
     absurd (omega (arith, flags, eleven)) in
     (flagged_extent nowhere nowhere (flagged image page 4) log (log_header name) 4 r.tiled (r.others log apart ∙ there) refl refl (λ q other. refl)).here
 
-pub joins_file : (old begun copied new : List ℕ) (file : FileAt) (page log : PageId)
-    → ((table : Entries) (size : ℕ) → HoldsTable old table None → size + 32 ≤ 256 * file.pages → BeginsFile old begun table (extent_of file.name file.kind page.0 file.pages size))
-    → ((table : Entries) (d : FileAt) (i : ℕ) → HoldsTable begun table (Some d) → d.page ≡ page → d.pages ≡ file.pages → d.size ≡ file.size → IsIn table i file
-    → ((p : ℕ) → p + 32 < 256 * file.pages → file_byte begun page.0 None p ≡ 0) → CopiesFile begun copied table d file)
-    → new ≡ obsoleted (flagged copied page.0 1) file.page.0 (Some log)
-    → (table : Entries) (i : ℕ) → HoldsTable old table None → IsIn table i file → file.log ≡ Some log → JoinsFile old new table i file (joined_at file page) log
-joins_file old begun copied new file page log begins copies written table i h is logged =
-    let stored = h.stored i file is in
-    let room = stored.fits.size in
-    let d : FileAt = extent_of file.name file.kind page.0 file.pages file.size in
-    let b = begins table file.size h room in
-    let c = copies table d i b.begins.holds refl refl refl is (λ p low. b.begins.zeros p low) in
-    let made : List ℕ = flagged copied page.0 1 in
-    let same : obsoleted (flagged copied page.0 1) file.page.0 file.log ≡ new = ap (obsoleted (flagged copied page.0 1) file.page.0) logged ∙ sym written in
-    let m = subst (λ image. CommitsExtent copied image table i d) same
-    (replaces copied table d file i page c.copies.holds refl is refl (λ some none. stored.last some (sym (c.copies.same (file.size - 1) (omega arith) ∙ b.begins.kept i file is (file.size - 1) (omega arith)) ∙ none))) in
-    record {
-      moves = record {
-        sets = record {
-          holds = m.sets.holds;
-          others = λ k e other there p low. m.sets.others k e other there p low ∙ c.copies.kept k e there p low ∙ b.begins.kept k e there p low;
-        };
-        same = λ p low. m.content p (omega arith) ∙ c.copies.same p low ∙ b.begins.kept i file is p (omega arith);
-      };
-      gone = ap (λ image. unit_begun (units_of image) 0 log.0) written
-          ∙ log_gone (flagged copied page.0 1) file.page.0 log.0 (file_header file) file.name (valid copied table d c.copies.holds).tiled (replaced_file copied table d file i c.copies.holds is) (ap file_flags logged)
-          (replaced_log copied table d file i log c.copies.holds is logged);
-    }
+-- the extent of a file that is put together with its log
+abbrev pub joined_draft : FileAt → PageId → FileAt
+joined_draft file page = extent_of file.name file.kind page.0 file.pages file.size
 
--- of a sound image a file that is listed
-pub joined_log : (old new : List ℕ) (file : FileAt) (page log : PageId) → broken_image old ≡ None → 256 * pages_of old ≡ length old → Contains (listed old) file → file.log ≡ Some log
-    → ((table : Entries) (i : ℕ) → HoldsTable old table None → IsIn table i file → file.log ≡ Some log → JoinsFile old new table i file (joined_at file page) log) → IsJoined old new log.0
-joined_log old new file page log sound whole there logged joins =
-    let table : Entries = map Some (listed old) ++ replicate 0 None in
-    let holds : HoldsTable old (map Some (listed old) ++ replicate 0 None) None = sound_held old 0 sound whole in
-    let few = sound_sparing old 0 in
-    let at = held_listed old (map Some (listed old) ++ replicate 0 None) file holds there in
-    let j = joins (map Some (listed old) ++ replicate 0 None) at.0 holds at.1 logged in
-    record {
-      keeps = record {
-        table = set (map Some (listed old) ++ replicate 0 None) at.0 (Some (joined_at file page));
-        holds = j.moves.sets.holds;
-        short = omega (arith, sound_few old sound whole, length-set (map Some (listed old) ++ replicate 0 None) at.0 (Some (joined_at file page)), length-append (map Some (listed old)) (replicate 0 None), length-map (listed old) Some);
-        few = λ i e is. ⊎_elim
-            (λ here. subst (λ (x : FileAt). has_few x ≡ true) (some_same (joined_at file page) e here.1) (few at.0 file sound whole at.1))
-            (λ there. few i e sound whole there.1)
-            (is_in_set (map Some (listed old) ++ replicate 0 None) at.0 (Some (joined_at file page)) i e is);
-        same = moves_files old new (map Some (listed old) ++ replicate 0 None) at.0 file (joined_at file page) holds at.1 j.moves refl refl refl;
-      };
-      name = file.name;
-      gone = j.gone;
-    }
+module _ (old shown : List ℕ) (table : Entries) (i : ℕ) (file : FileAt) (page log : PageId) (t : IsTable old table None) (is : IsIn table i file) (logged : file.log ≡ Some log)
+    (h : HoldsTable shown table (Some (joined_draft file page))) (kept : KeepsContents old shown table) (same : (p : ℕ) → p < file.size → file_byte shown page.0 None p ≡ file_byte old file.page.0 file.log p) where
+  abbrev both : List ℕ
+  both = flagged shown page.0 1
+
+  -- the image in which the new extent is valid, and the old one and its log are obsolete
+  abbrev pub all : List ℕ
+  all = obsoleted both file.page.0 (Some log)
+
+  pub ends_right : 1 ≤ file.size → file_byte shown page.0 None (file.size - 1) ≢ 0
+  ends_right some none = (t.holds.stored i file is).last some (sym (same (file.size - 1) (omega (arith, some))) ∙ none)
+
+  joins : JoinsFile old all table i file (joined_at file page) log
+  joins =
+      let stored = t.holds.stored i file is in
+      let room = stored.fits.size in
+      let d : FileAt = joined_draft file page in
+      let m : CommitsExtent shown all table i d = subst (λ o. CommitsExtent shown (obsoleted both file.page.0 o) table i d) logged (replaces shown table d file i page h refl is refl ends_right) in
+      record {
+        moves = record {
+          sets = record { holds = m.sets.holds; others = λ k e other there p low. m.sets.others k e other there p low ∙ kept k e there p low };
+          same = λ p low. m.content p (omega arith) ∙ same p low;
+        };
+        gone = log_gone both file.page.0 log.0 (file_header file) file.name (valid shown table d h).tiled (replaced_file shown table d file i h is) (ap file_flags logged) (replaced_log shown table d file i log h is logged);
+      }
+
+  pub joined : IsJoined old all log.0
+  joined =
+      let count = t.few in
+      let long = length-set table i (Some (joined_at file page)) in
+      record {
+        keeps = record {
+          table = set table i (Some (joined_at file page));
+          holds = joins.moves.sets.holds;
+          short = omega (arith, count, long);
+          few = λ k e at. sparing_set table i (joined_at file page) t.sparing (t.sparing i file is) k e at;
+          same = moves_files old all table i file (joined_at file page) t.holds is joins.moves refl refl refl;
+        };
+        name = file.name;
+        gone = joins.gone;
+      }
 
 -- an error of a call that is handed on
 pub space_on : {T U : Type 0} (r : Result T FileError) (q : Result U FileError) (e : FileError) (P Q : ℕ → Type 0) → r ≡ Err e → q ≡ Err e → ((need : ℕ) → P need → Q need) → OnSpace r P → OnSpace q Q
@@ -107,33 +98,35 @@ space_on r (Ok x) e P Q was is more p = tt
 space_on r (Err Failed) e P Q was is more p = tt
 space_on r (Err (Space need)) e P Q was is more p = let same : e ≡ Space need = cc in more need (rw (was ∙ ap (λ x. Err x) same) at p)
 
--- of a sound image, where no pages are had for a file that is listed
-pub lacks_room : (old new : List ℕ) (file : FileAt) (log : PageId) (need : ℕ) → broken_image old ≡ None → 256 * pages_of old ≡ length old → Contains (listed old) file → file.log ≡ Some log
-    → ((table : Entries) → HoldsTable old table None → LeavesAll old new table need) → need ≡ file.pages → LacksRoom old new log.0 need
-lacks_room old new file log need sound whole there logged leaves pages =
-    let holds : HoldsTable old (map Some (listed old) ++ replicate 0 None) None = sound_held old 0 sound whole in
-    let at = held_listed old (map Some (listed old) ++ replicate 0 None) file holds there in
-    let l = leaves (map Some (listed old) ++ replicate 0 None) holds in
-    record {
-      keeps = record {
-        table = map Some (listed old) ++ replicate 0 None;
-        holds = l.stays.holds;
-        short = omega (arith, sound_few old sound whole, length-append (map Some (listed old)) (replicate 0 None), length-map (listed old) Some);
-        few = λ i e is. sound_sparing old 0 i e sound whole is;
-        same = stays_files old new (map Some (listed old) ++ replicate 0 None) holds l.stays;
-      };
-      name = file.name;
-      stands = l.stays.holds.logs at.0 file log at.1 logged;
-      used = used_is new log.0 file.used ((l.stays.holds.stored at.0 file at.1).file.logged log logged) ∙ sym (used_is old log.0 file.used ((holds.stored at.0 file at.1).file.logged log logged));
-      wants = record {
-        page = file.page.0;
-        header = file_header file;
-        there = l.stays.holds.files at.0 file at.1;
-        names = ap log_number logged;
-        pages_are = sym pages;
-      };
-      cramped = l.cramped;
-    }
+-- the same where the error is that the flash failed
+pub failed_on : {T U : Type 0} (r : Result T FileError) (q : Result U FileError) (e : FileError) → r ≡ Err e → q ≡ Err e → q ≡ Err Failed → r ≡ Err Failed
+failed_on r q Failed was is failed = was
+failed_on r q (Space need) was is failed = let no : ⊥ = cc in absurd no
+
+-- where no pages are had for a file with a log
+pub lacks_room : (old new : List ℕ) (table : Entries) (i : ℕ) (file : FileAt) (log : PageId) (need : ℕ) → IsTable old table None → IsIn table i file → file.log ≡ Some log → LeavesFiles old new table need → need ≡ file.pages
+    → LacksRoom old new log.0 need
+lacks_room old new table i file log need t is logged l pages = record {
+  keeps = record {
+    table = table;
+    holds = l.stays.holds;
+    short = t.few;
+    few = t.sparing;
+    same = stays_files old new table t.holds l.stays;
+  };
+  name = file.name;
+  stands = l.stays.holds.logs i file log is logged;
+  used = used_is new log.0 file.used ((l.stays.holds.stored i file is).file.logged log logged) ∙ sym (used_is old log.0 file.used ((t.holds.stored i file is).file.logged log logged));
+  wants = record {
+    page = file.page.0;
+    header = file_header file;
+    there = l.stays.holds.files i file is;
+    names = ap log_number logged;
+    pages_are = sym pages;
+    shape = let s = l.stays.holds.stored i file is in ap (λ (x : FileAt). has_shape x.kind x.pages) (entry_is new file s) ∙ s.shape;
+  };
+  cramped = l.cramped;
+}
 
 -- ---- which file has a log
 

@@ -1,6 +1,14 @@
 pub mod Beside
 pub mod Erasures
+pub mod HiddenBytes
+pub mod HiddenCollections
+pub mod HiddenDrafts
+pub mod HiddenMends
+pub mod JoinSteps
 pub mod Joins
+pub mod LikeImages
+pub mod LikeSettlings
 pub mod Mends
 pub mod Settlings
 pub mod StandingLogs
+pub mod TornOwners

@@ -33,6 +33,13 @@ pub record IsTornAs (old new : List ℕ) (log place need : ℕ) : Type 0 where
   pub wants : OwnsLog (units_of new) log need
   pub cramped : IsCramped (units_of new) need
 
+-- an image mends to just the files that a sound one has
+pub record MendsLike (old new : List ℕ) : Type 0 where
+  pub files : List NamedFile
+  pub mends : MendsTo new files
+  pub kept : (f : NamedFile) → Contains (files_of old) f → Contains files f
+  pub only : (f : NamedFile) → Contains files f → Contains (files_of old) f
+
 -- an image mends to just the files that another mends to
 pub record MendAlike (old new : List ℕ) : Type 0 where
   pub files : List NamedFile

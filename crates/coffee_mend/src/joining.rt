@@ -1,91 +1,47 @@
-ghost use Rattle.std.specs.Prelude.{◌≡◌, ◌≢◌, ◌+◌, ◌*◌, ◌≤◌, ℕ, true, false, None, Some, length, IsTrue, IfOk, IfSome, OnOk};
-ghost use Rattle.std.specs.List.{All, Contains};
-ghost use Rattle.afl_base.specs.Keeping.{ChangesFlashOrLacks, Programs};
+ghost use Rattle.std.specs.Prelude.{◌≡◌, ℕ, true, None, Some, length, IsErrOf, IsTrue, OnErr, OnOk};
 ghost use Rattle.afl_base.specs.FileErrors.{OnSpace};
-ghost use Rattle.coffee_cuts.specs.Cuts.{IsActiveAt};
+ghost use Rattle.afl_base.specs.Image.{zeros_at};
+ghost use Rattle.afl_base.specs.Keeping.{ChangesFlashOrLacks, Programs};
 ghost use Rattle.coffee_find.specs.Found.{HasPage};
 ghost use Rattle.coffee_layout.specs.Files.{FitsIn};
-ghost use Rattle.coffee_layout.specs.Rules.{broken_image};
 ghost use Rattle.coffee_layout.specs.Units.{pages_of};
+ghost use Rattle.coffee_merge.specs.CutMarks.{IsCutReplace};
 ghost use Rattle.coffee_merge.specs.Flags.{flagged, obsoleted};
-ghost use Rattle.coffee_merge.specs.Holding.{Entries, HoldsTable, IsIn, has_shape};
-ghost use Rattle.coffee_merge.specs.Outcomes.{LeavesAll};
-ghost use Rattle.coffee_mend.specs.Joined.{IsJoined, JoinsFile, LacksRoom, joined_at};
+ghost use Rattle.coffee_merge.specs.Holding.{Entries, has_shape};
+ghost use Rattle.coffee_mend.specs.Joined.{HidesRecord, LeavesFiles};
+ghost use Rattle.coffee_mend.specs.Mended.{IsSoundAs, MendsLike};
 
+use crate::drafting::{begin_draft, copy_content};
 use crate::settling::mark;
-use afl_base::{Failed, FileError, Flash, Kind, PageId};
-use coffee_layout::{FileAt, Table, check, is_doubling};
-use coffee_merge::{begin_extent, copy_file};
+use afl_base::{Failed, FileError, Flash, PageId};
+use coffee_layout::FileAt;
 
-/// Puts the file of a log together with it, in a new extent. `false` comes only where the image is not
-/// sound, or the log is not active in it.
-pub(crate) fn join_log<F: Flash>(flash: &mut F, log: PageId) -> Result<bool, FileError>
-    requires log { HasPage (length (F.image flash.old)) log.0 }
-    ensures joined { IsTrue F.tells → broken_image (F.image flash.old) ≡ None
-        → IfOk result (λ done. IsTrue done → IsJoined (F.image flash.old) (F.image flash.new) log.0) }
-    ensures known { IsTrue F.tells → broken_image (F.image flash.old) ≡ None
-        → IsActiveAt (F.image flash.old) log.0 19 → IfOk result (λ done. done ≡ true) }
-    ensures left { IsTrue F.tells → broken_image (F.image flash.old) ≡ None
-        → OnSpace result (λ need. LacksRoom (F.image flash.old) (F.image flash.new) log.0 need) }
-    ensures frame { ChangesFlashOrLacks F.image F.lent F.reads F.faults flash.old flash.new result }
-{
-    flash.sectors();
-    let mut table = Table::new();
-    let Ok(()) = check(flash, &mut table)? else {
-        return Ok(false);
-    };
-    let Some(file) = file_of_log(&table, log) else {
-        return Ok(false);
-    };
-    join_file(flash, &file, log)?;
-    Ok(true)
-}
-
-// The file of a log.
-fn file_of_log(table: &[FileAt], log: PageId) -> Option<FileAt>
-    ensures listed { IfSome result (λ e. Contains table.now e) }
-    ensures log { IfSome result (λ e. e.log ≡ Some log) }
-    ensures shape { IfSome result (λ e. has_shape e.kind e.pages ≡ true) }
-    ensures none { result ≡ None
-        → All (λ e. e.log ≡ Some log → has_shape e.kind e.pages ≡ false) table.now }
-{
-    for file in table {
-        if file.log == Some(log) && has_shape(file) {
-            return Some(*file);
-        }
-    }
-    None
-}
-
-// Whether the pages of a file are those of its kind: 16 * 2^j, or 1 to 15.
-fn has_shape(at: &FileAt) -> bool
-    ensures { result ≡ has_shape at.now.kind at.now.pages }
-{
-    match at.kind {
-        Kind::Doubling => is_doubling(at.pages),
-        Kind::Fixed(n) => n == at.pages && 1 <= n && n <= 15,
-    }
-}
-
-// The same of a file that is known.
-fn join_file<F: Flash>(flash: &mut F, file: &FileAt, log: PageId) -> Result<PageId, FileError>
+/// Puts a file together with its log, of which the next record is torn, in a new extent. That is valid
+/// before the old one is obsolete: so an image that is left by a cut mends to the same files.
+pub(crate) fn join_file<F: Flash>(
+    flash: &mut F,
+    file: &FileAt,
+    log: PageId,
+) -> Result<(), FileError>
     requires fits { FitsIn (pages_of (F.image flash.old)) file.now }
     requires shape { has_shape file.now.kind file.now.pages ≡ true }
     requires log { HasPage (length (F.image flash.old)) log.0 }
-    ensures joined { IsTrue F.tells → IfOk result
-        (λ page. (table : Entries) (i : ℕ) → HoldsTable (F.image flash.old) table None
-        → IsIn table i file.now → file.now.log ≡ Some log
-        → JoinsFile (F.image flash.old) (F.image flash.new) table i file.now (joined_at file.now page) log) }
+    ensures joined { IsTrue F.tells → OnOk result
+        ((table : Entries) (i place : ℕ) → HidesRecord (F.image flash.old) table None i file.now place
+        → file.now.log ≡ Some log → IsSoundAs (zeros_at (F.image flash.old) place 128) (F.image flash.new)) }
     ensures left { IsTrue F.tells → OnSpace result
-        (λ need. (table : Entries) → HoldsTable (F.image flash.old) table None
-        → LeavesAll (F.image flash.old) (F.image flash.new) table need) }
+        (λ need. (table : Entries) (i place : ℕ) → HidesRecord (F.image flash.old) table None i file.now place
+        → LeavesFiles (zeros_at (F.image flash.old) place 128) (zeros_at (F.image flash.new) place 128) table need) }
     ensures need { OnSpace result (λ need. need ≡ file.now.pages) }
+    ensures cut { IsTrue F.tells → IsTrue F.cuts → IsErrOf result FileError.Failed
+        → (table : Entries) (i place : ℕ) → HidesRecord (F.image flash.old) table None i file.now place
+        → file.now.log ≡ Some log → MendsLike (zeros_at (F.image flash.old) place 128) (F.image flash.new) }
     ensures frame { ChangesFlashOrLacks F.image F.lent F.reads F.faults flash.old flash.new result }
 {
-    let page = begin_extent(flash, &file.name, file.kind, file.pages)?;
-    copy_file(flash, file, page, file.pages)?;
+    let page = begin_draft(flash, file)?;
+    copy_content(flash, file, page)?;
     take_place(flash, page, file.page, log)?;
-    Ok(page)
+    Ok(())
 }
 
 // Makes a new extent valid, and then the old one and its log obsolete.
@@ -95,6 +51,8 @@ fn take_place<F: Flash>(flash: &mut F, page: PageId, old: PageId, log: PageId) -
     requires log { HasPage (length (F.image flash.old)) log.0 }
     ensures taken { IsTrue F.tells → OnOk result
         (F.image flash.new ≡ obsoleted (flagged (F.image flash.old) page.0 1) old.0 (Some log)) }
+    ensures cut { IsTrue F.tells → IsTrue F.cuts → OnErr result
+        (IsCutReplace (F.image flash.old) (F.image flash.new) page.0 old.0 (Some log)) }
     ensures frame { Programs F.image F.lent F.reads F.faults flash.old flash.new result }
 {
     mark(flash, page, 1)?;

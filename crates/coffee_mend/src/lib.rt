@@ -1,9 +1,11 @@
 //! What a power cut left of an image is repaired: its files stay those that it mends to.
 #![tactic(auto)]
 
+mod drafting;
 mod joining;
 mod laws;
 mod mending;
+mod owner;
 mod settling;
 
 pub use laws::{cut_settlings_mend, mended_images_keep_their_files};

@@ -1,16 +1,15 @@
-ghost use Rattle.std.specs.Prelude.{◌≡◌, ◌≢◌, ℕ, ◌+◌, ◌*◌, ◌≤◌, Err, None, Ok, Some, false, true, length, IsTrue, IfErr, OnOk};
+ghost use Rattle.std.specs.Prelude.{◌≡◌, ◌≢◌, Err, None, Ok, Some, length, IsTrue, IfErr, OnOk};
 ghost use Rattle.afl_base.specs.Image.{zeros_at};
 ghost use Rattle.afl_base.specs.declared.kind.FileError.TheVariants.{Failed as FaultOfFile, Space as LackOfSpace};
-ghost use Rattle.coffee_find.specs.Found.{HasRecord, IsCutBy, IsTornAt, IsTroubleInside, meant};
-ghost use Rattle.coffee_mend.specs.Mended.{IsCrowded, IsFailure, IsMended, IsSoundAs, IsTornAs, MendsFlash, OnFlashFailed, OnLacking};
+ghost use Rattle.coffee_find.specs.Found.{HasRecord, IsCutBy, IsTornAt, IsTroubleInside};
+ghost use Rattle.coffee_mend.specs.Mended.{IsCrowded, IsFailure, IsMended, IsSoundAs, IsTornAs, MendAlike, MendsFlash, MendsLike, OnFlashFailed, OnLacking};
 ghost use Rattle.coffee_mend.specs.declared.mending.MendError.TheVariants.{Unsettled as StrangeImage};
-ghost use Rattle.coffee_mend.specs.Settling.{IsCutSettling};
 
-use crate::joining::join_log;
+use crate::joining::join_file;
+use crate::owner::owner_beside;
 use crate::settling::settle;
-use afl_base::{FileError, Flash};
+use afl_base::{Failed, FileError, Flash};
 use coffee_find::{TornRecord, Trouble};
-use flash_views::{Handed, Shadowed};
 
 /// Why an image was not mended.
 #[derive(Clone, Copy, PartialEq, Eq, Debug)]
@@ -25,8 +24,8 @@ pub enum MendError {
 }
 
 /// Repairs what a cut left of an image: it is sound then, and has just the files that it mends to. It
-/// asks for pages only where a record is torn. Where the flash fails in the write that settles what was
-/// under way, `cut_settlings_mend` says what it leaves.
+/// asks for pages only where a record is torn. Where the flash fails, in whichever write, the image that is
+/// left mends to the same files.
 pub fn mend<F: Flash>(flash: &mut F, trouble: &Trouble) -> Result<(), MendError>
     requires inside { IsTroubleInside (length (F.image flash.old)) trouble.now }
     ensures mended { IsTrue F.tells → IsCutBy (F.image flash.old) trouble.now
@@ -36,9 +35,8 @@ pub fn mend<F: Flash>(flash: &mut F, trouble: &Trouble) -> Result<(), MendError>
     ensures settles { IsTrue F.tells → IsCutBy (F.image flash.old) trouble.now
         → result ≢ Err StrangeImage }
     ensures failures { trouble.now.torn ≡ None → IfErr result (λ e. IsFailure e) }
-    ensures cut { IsTrue F.tells → IsTrue F.cuts → trouble.now.torn ≡ None
-        → IfErr result (λ e. OnFlashFailed e
-        (IsCutSettling (F.image flash.old) (F.image flash.new) (meant trouble.now.under_way))) }
+    ensures cut { IsTrue F.tells → IsTrue F.cuts → IsCutBy (F.image flash.old) trouble.now
+        → IfErr result (λ e. OnFlashFailed e (MendAlike (F.image flash.old) (F.image flash.new))) }
     ensures frame { MendsFlash F.image F.lent F.reads F.faults flash.old flash.new result }
 {
     flash.sectors();
@@ -61,42 +59,28 @@ fn join_torn<F: Flash>(flash: &mut F, torn: &TornRecord) -> Result<(), MendError
         IsTornAs (F.image flash.old) (F.image flash.new) torn.now.log.0 torn.now.place need)) }
     ensures settles { IsTrue F.tells → IsTornAt (F.image flash.old) torn.now.log.0 torn.now.place
         → result ≢ Err StrangeImage }
+    ensures cut { IsTrue F.tells → IsTrue F.cuts → IsTornAt (F.image flash.old) torn.now.log.0 torn.now.place
+        → IfErr result (λ e. OnFlashFailed e
+        (MendsLike (zeros_at (F.image flash.old) torn.now.place 128) (F.image flash.new))) }
     ensures frame { MendsFlash F.image F.lent F.reads F.faults flash.old flash.new result }
 {
-    let mut joined = Err(MendError::Unsettled);
-    let _handed = join_beside(Handed { flash }, torn, &mut joined);
-    joined
-}
-
-// The same over a flash beside which the record stands, as zeros at first.
-fn join_beside<F: Flash>(flash: F, torn: &TornRecord, joined: &mut Result<(), MendError>) -> F
-    requires torn { HasRecord (length (F.image flash)) (Some torn.now) }
-    ensures joined { IsTrue F.tells → IsTornAt (F.image flash) torn.now.log.0 torn.now.place
-        → OnOk joined.new (IsSoundAs (zeros_at (F.image flash) torn.now.place 128) (F.image result)) }
-    ensures space { IsTrue F.tells → IsTornAt (F.image flash) torn.now.log.0 torn.now.place
-        → IfErr joined.new (λ e. OnLacking e (λ need.
-        IsTornAs (F.image flash) (F.image result) torn.now.log.0 torn.now.place need)) }
-    ensures settles { IsTrue F.tells → IsTornAt (F.image flash) torn.now.log.0 torn.now.place
-        → joined.new ≢ Err StrangeImage }
-    ensures frame { MendsFlash F.image F.lent F.reads F.faults flash result joined.new }
-{
     flash.sectors();
-    let mut shadowed = Shadowed::new(flash, torn.place);
-    let done = join_log(&mut shadowed, torn.log);
-    *joined = came_of(done);
-    shadowed.into_flash()
+    match owner_beside(flash, torn.log, torn.place) {
+        Err(Failed) => Err(MendError::Failed),
+        Ok(None) => Err(MendError::Unsettled),
+        Ok(Some(file)) => came_of(join_file(flash, &file, torn.log)),
+    }
 }
 
-// What joining came to. A file that is not found shows that the image is not what was found.
-fn came_of(done: Result<bool, FileError>) -> Result<(), MendError>
-    ensures joined { OnOk result (done ≡ Ok true) }
+// What joining came to.
+fn came_of(done: Result<(), FileError>) -> Result<(), MendError>
+    ensures joined { OnOk result (done ≡ Ok tt) }
     ensures lacking { IfErr result (λ e. OnLacking e (λ need. done ≡ Err (LackOfSpace need))) }
     ensures failed { IfErr result (λ e. OnFlashFailed e (done ≡ Err FaultOfFile)) }
-    ensures strange { result ≡ Err StrangeImage → done ≡ Ok false }
+    ensures known { result ≢ Err StrangeImage }
 {
     match done {
-        Ok(true) => Ok(()),
-        Ok(false) => Err(MendError::Unsettled),
+        Ok(()) => Ok(()),
         Err(FileError::Space { need }) => Err(MendError::Space { need }),
         Err(FileError::Failed) => Err(MendError::Failed),
     }

@@ -1,4 +1,4 @@
-ghost use Rattle.std.specs.Prelude.{◌≡◌, ◌+◌, ◌*◌, ◌≤◌, length, IsTrue, OnErr, OnOk};
+ghost use Rattle.std.specs.Prelude.{◌≡◌, ◌*◌, length, IsTrue, OnErr, OnOk};
 ghost use Rattle.afl_base.specs.Keeping.{Programs};
 ghost use Rattle.coffee_cuts.specs.Cuts.{settled};
 ghost use Rattle.coffee_find.specs.Found.{HasLogPage, HasPage, IsInFlash, meant};

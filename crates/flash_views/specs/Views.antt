@@ -74,23 +74,6 @@ pub record IsSameFlash {F : Type 0} (holds borrows : F → List ℕ) (flash othe
   pub image : holds other ≡ holds flash
   pub lent : borrows other ≡ borrows flash
 
--- a flash, and the 128 bytes beside it, which stand for those from a place on
-pub record FlashWithShadow (F : Type 0) : Type 0 where
-  pub inner : F
-  pub place : ℕ
-  pub bytes : List ℕ
-
--- 128 bytes stand for those from a place on, in a flash of this many bytes
-pub record IsShadow (size place : ℕ) (bytes : List ℕ) : Type 0 where
-  pub inside : place + 128 ≤ size
-  pub long : length bytes ≡ 128
-
--- an image is another one, but for the 128 bytes from a place on
-pub record IsSameBut (image other : List ℕ) (place : ℕ) : Type 0 where
-  pub inside : place + 128 ≤ length image
-  pub size : length other ≡ length image
-  pub others : (k : ℕ) → (k < place) ⊎ (place + 128 ≤ k) → slice_index other k ≡ slice_index image k
-
 -- one refusal more, up to the last number of a u64
 abbrev pub refusals_after : ℕ → ℕ
 refusals_after refused = min (refused + 1) (2 ^ 64 - 1)

@@ -1,12 +1,10 @@
-ghost use Rattle.std.specs.Prelude.{◌≡◌, ℕ, ◌+◌, ◌*◌, ◌≤◌, List, [], ◌∷◌, length, take, Some};
-ghost use Rattle.afl_base.specs.Fields.{put_at};
+ghost use Rattle.std.specs.Prelude.{◌≡◌, ℕ, ◌+◌, ◌*◌, ◌≤◌, List, [], ◌∷◌, length, Some};
 ghost use Rattle.afl_base.specs.Image.{or_at, zeros_at};
 ghost use Rattle.afl_base.specs.declared.ids.SectorId.{SectorId as Sector};
 ghost use Rattle.flash_views.specs.Views.{FitsImage, StandAt, blanked, emptied, with_mark, overlaid};
 
 use crate::overlay::{Mark, Overlay};
 use afl_base::{SECTOR_SIZE, SectorId};
-use padded::padded_to;
 
 // Each function here is given the bytes that stand in an image from `place` on, and makes of them what
 // stands there once the image is changed.
@@ -71,7 +69,7 @@ fn put_bits(byte: usize, bits: u8, place: usize, into: &mut [u8])
 }
 
 // This many bytes that are zero.
-pub(crate) fn put_zeros(from: usize, count: usize, place: usize, into: &mut [u8])
+fn put_zeros(from: usize, count: usize, place: usize, into: &mut [u8])
     requires fits { place + length into.old ≤ 16777216 }
     ensures over { (image : List ℕ) → from + count ≤ length image
         → StandAt image place into.old → StandAt (zeros_at image from count) place into.new }
@@ -82,46 +80,4 @@ pub(crate) fn put_zeros(from: usize, count: usize, place: usize, into: &mut [u8]
             into[i] = 0;
         }
     }
-}
-
-// Bytes in the place of those that stand from `from` on.
-pub(crate) fn put_part(part: &[u8], from: usize, place: usize, into: &mut [u8])
-    requires fits { place + length into.old ≤ 16777216 }
-    ensures over { (image : List ℕ) → from + length part.now ≤ length image
-        → StandAt image place into.old → StandAt (put_at image from part.now) place into.new }
-{
-    for i in 0..into.len() {
-        let byte = place + i;
-        if byte >= from && byte - from < part.len() {
-            into[i] = part[byte - from];
-        }
-    }
-}
-
-// Bytes that are programmed from `from` on.
-pub(crate) fn put_programmed(bytes: &[u8], from: usize, place: usize, into: &mut [u8])
-    requires fits { place + length into.old ≤ 16777216 }
-    ensures over { (image : List ℕ) → StandAt image place into.old
-        → StandAt (or_at image from bytes.now) place into.new }
-{
-    for i in 0..into.len() {
-        let byte = place + i;
-        if byte >= from && byte - from < bytes.len() {
-            into[i] |= bytes[byte - from];
-        }
-    }
-}
-
-// What a program of bytes from `place` on asks of a flash beside which the 128 bytes from `from` on stand:
-// zeros, which change nothing, where it falls on these.
-pub(crate) fn asked_below(bytes: &[u8], place: usize, from: usize) -> [u8; 256]
-    requires few { length bytes.now ≤ 256 }
-    requires fits { place + length bytes.now ≤ 16777216 }
-    ensures size { length result ≡ 256 }
-    ensures over { (image : List ℕ) → from + 128 ≤ length image → StandAt image place bytes.now
-        → StandAt (zeros_at image from 128) place (take (length bytes.now) result) }
-{
-    let mut below = padded_to(bytes);
-    put_zeros(from, 128, place, &mut below[..bytes.len()]);
-    below
 }

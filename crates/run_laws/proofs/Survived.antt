@@ -1,5 +1,5 @@
 -- However a run ends over a sound image, what it leaves mends to the database after the entries whose replies came out, or to one up to the next.
-use Rattle.std.proofs.Common.{◌≡◌, ◌≢◌, ◌⊎◌, inl, inr, ⊎_elim, ℕ, ◌*◌, true, List, [], ◌∷◌, ◌++◌, length, Option, Some, None, refl, ap, sym, subst, ◌∙◌, arith, append_assoc}
+use Rattle.std.proofs.Common.{◌≡◌, ◌≢◌, ◌⊎◌, inl, inr, ⊎_elim, ℕ, suc, ◌*◌, true, List, [], ◌∷◌, ◌++◌, length, Option, Some, None, refl, ap, sym, subst, ◌∙◌, arith, append_assoc}
 use Rattle.std.specs.Prelude.{⊤, Result, Ok, Err, IsTrue}
 use Rattle.std.specs.Io.KnownBytes.{append_known, prepend_known}
 use Rattle.std.proofs.lemmas.List.{append-nil, append_cancel_left}
@@ -22,10 +22,11 @@ use Rattle.antelope_run.specs.declared.came.Came.{Came}
 use Rattle.antelope_run.specs.declared.came.Came.TheVariants.{Opened, Refused, Unsaid, Failed}
 use Rattle.run_words.specs.declared.words.Form.{Form}
 use Rattle.run_words.specs.declared.words.Form.TheVariants.{Run, Serve}
-use Rattle.run_repair.specs.Outcomes.{RepairsTo}
+use Rattle.run_repair.specs.Mends.{StaysOrMends}
+use Rattle.run_repair.specs.Outcomes.{AreInterrupted, IsPutRightTimes, RepairsTo}
 use Rattle.run_repair.specs.Repairs.{Repairs}
 use Rattle.stored.specs.Mended.{mended_base}
-use Rattle.run_laws.specs.Survival.{InputRestores, InputSurvives, IsReplyBegun, IsUpToNext, Next, Survives}
+use Rattle.run_laws.specs.Survival.{InputRestoredAfter, InputRestores, InputSurvives, IsReplyBegun, IsUpToNext, Next, Survives}
 
 nothing_more : (xs : List ℕ) (o : Option (List ℕ)) → append_known o (xs ++ []) ≡ append_known o xs
 nothing_more xs o = ap (append_known o) (append-nil xs)
@@ -208,14 +209,32 @@ module _ {E : Type 0} (line : Line E) (talk : Talk E) (sectors : ℕ) where
 
   -- and a repair restores it
   pub restored : (old new : World)
-      → ((status : ℕ) (before after : List ℕ) (held now : Option (List ℕ)) (db : Database) (n : ℕ) → length before ≡ 4096 * n → ImageMendsTo before (λ mended. mended ≡ db) → Repairs status before after held now → status ≢ 4 → status ≢ 5 → RepairsTo status db before after)
-      → InputSurvives line talk old new → length new.image ≡ 4096 * sectors → (repair : ℕ) (image : List ℕ) (held now : Option (List ℕ)) → Repairs repair new.image image held now → repair ≢ 4 → repair ≢ 5
-      → InputRestores line talk old new repair image
-  restored old new law s size repair image held now repairs unfailed unsaid =
+      → ((status : ℕ) (before after : List ℕ) (held now : Option (List ℕ)) (db : Database) (n : ℕ) → length before ≡ 4096 * n → ImageMendsTo before (λ mended. mended ≡ db) → Repairs status before after held now
+      → (status ≡ 4 → StaysOrMends before after) → status ≢ 5 → RepairsTo status db before after)
+      → InputSurvives line talk old new → length new.image ≡ 4096 * sectors → (repair : ℕ) (image : List ℕ) (held now : Option (List ℕ)) → Repairs repair new.image image held now
+      → (repair ≡ 4 → StaysOrMends new.image image) → repair ≢ 5 → InputRestores line talk old new repair image
+  restored old new law s size repair image held now repairs cut unsaid =
       let m = s.survives.mends in
       record {
         survives = s;
         database = mended_base m.files;
         up_to = m.is;
-        repairs = law repair new.image image held now (mended_base m.files) sectors size (record { files = m.files; mends_to = m.mends_to; cut = m.cut; is = refl }) repairs unfailed unsaid;
+        repairs = law repair new.image image held now (mended_base m.files) sectors size (record { files = m.files; mends_to = m.mends_to; cut = m.cut; is = refl }) repairs cut unsaid;
+      }
+
+  -- and so does one behind others that were interrupted
+  pub restored_after : (old new : World)
+      → ((repairs : ℕ) (before left after : List ℕ) (held now : Option (List ℕ)) (db : Database) (n : ℕ) → length before ≡ 4096 * n → ImageMendsTo before (λ mended. mended ≡ db) → AreInterrupted repairs before left
+      → Repairs 0 left after held now → IsSound after × IsPutRightTimes (suc repairs) db (base after))
+      → InputSurvives line talk old new → length new.image ≡ 4096 * sectors → (repairs : ℕ) (left image : List ℕ) (held now : Option (List ℕ)) → AreInterrupted repairs new.image left → Repairs 0 left image held now
+      → InputRestoredAfter line talk old new (suc repairs) image
+  restored_after old new law s size repairs left image held now before last =
+      let m = s.survives.mends in
+      let ended = law repairs new.image left image held now (mended_base m.files) sectors size (record { files = m.files; mends_to = m.mends_to; cut = m.cut; is = refl }) before last in
+      record {
+        survives = s;
+        database = mended_base m.files;
+        up_to = m.is;
+        sound = ended.0;
+        base_is = ended.1;
       }

@@ -5,11 +5,11 @@ use Rattle.std.specs.Io.KnownBytes.{append_known, prepend_known}
 use Rattle.db_model.specs.declared.commands.Command.{Command}
 use Rattle.db_model.specs.Between.{IsBetween}
 use Rattle.db_model.specs.Database.{Database, bare}
-use Rattle.run_repair.specs.Outcomes.{RepairsTo}
+use Rattle.run_repair.specs.Outcomes.{IsPutRightTimes, RepairsTo}
 use Rattle.run_model.specs.Line.{Line}
 use Rattle.run_model.specs.Runs.{AreEntries, Machine, World, machine_from}
 use Rattle.run_model.specs.Talk.{Talk}
-use Rattle.image_model.specs.Images.{base}
+use Rattle.image_model.specs.Images.{IsSound, base}
 use Rattle.image_model.specs.Mending.{ImageMendsTo}
 
 -- the entry that follows those in front
@@ -49,9 +49,19 @@ pub record InputSurvives {E : Type 0} (line : Line E) (talk : Talk E) (old new :
   pub are : AreEntries line talk bytes entries new
   pub survives : Survives (machine_from talk (base old.image)) entries old new
 
--- and behind it a repair that ended with a status made of the image one that stands for one of these databases, put right
+-- and behind it a repair that ended with a status made of the image one that stands for one of these databases, put right,
+-- or that still mends to it
 pub record InputRestores {E : Type 0} (line : Line E) (talk : Talk E) (old new : World) (status : ℕ) (repaired : List ℕ) : Type 0 where
   pub survives : InputSurvives line talk old new
   pub database : Database
   pub up_to : IsUpToNext (machine_from talk (base old.image)) survives.entries survives.survives.front database
   pub repairs : RepairsTo status database new.image repaired
+
+-- or many repairs, of which the last alone was not interrupted: the image is sound, and stands for one of these databases,
+-- put right so many times
+pub record InputRestoredAfter {E : Type 0} (line : Line E) (talk : Talk E) (old new : World) (repairs : ℕ) (repaired : List ℕ) : Type 0 where
+  pub survives : InputSurvives line talk old new
+  pub database : Database
+  pub up_to : IsUpToNext (machine_from talk (base old.image)) survives.entries survives.survives.front database
+  pub sound : IsSound repaired
+  pub base_is : IsPutRightTimes repairs database (base repaired)

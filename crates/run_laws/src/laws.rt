@@ -2,7 +2,7 @@
 
 #![tactic(auto)]
 
-ghost use Rattle.std.specs.Prelude.{◌≡◌, ◌≢◌, ◌≤◌, ◌*◌, ◌/◌, ℕ, List, Option, length, true, Some, Result};
+ghost use Rattle.std.specs.Prelude.{◌≡◌, ◌≢◌, ◌≤◌, ◌*◌, ◌/◌, ℕ, suc, List, Option, length, true, Some, Result};
 ghost use Rattle.run_words.specs.declared.words.Form.TheVariants.{Run, Serve};
 ghost use Rattle.antelope_run.specs.Promise.{HasSpace, IsRun, LeftBy, Moment};
 ghost use Rattle.db_model.specs.declared.commands.Command.{Command};
@@ -12,10 +12,12 @@ ghost use Rattle.db_model.specs.Reading.{IsReader};
 ghost use Rattle.db_model.specs.Script.{commands};
 ghost use Rattle.db_model.specs.Sound.{IsSoundDatabase};
 ghost use Rattle.dump_model.specs.Script.{script};
+ghost use Rattle.run_repair.specs.Mends.{StaysOrMends};
+ghost use Rattle.run_repair.specs.Outcomes.{AreInterrupted};
 ghost use Rattle.run_repair.specs.Repairs.{Repairs};
 ghost use Rattle.run_laws.specs.Remaking.{Dumps, Remakes, RunsDump};
 ghost use Rattle.run_laws.specs.Places.{unsaid_front};
-ghost use Rattle.run_laws.specs.Survival.{InputRestores, InputSurvives};
+ghost use Rattle.run_laws.specs.Survival.{InputRestoredAfter, InputRestores, InputSurvives};
 ghost use Rattle.run_model.specs.Runs.{InputFoundNoSpace, InputUnsaid, World};
 ghost use Rattle.run_model.specs.Scripts.{script_line, script_talk};
 ghost use Rattle.run_frames.specs.Frames.{frame_line};
@@ -29,7 +31,7 @@ use dump_model::{packed_databases_have_the_same_script, scripts_make_their_datab
 use image_model::{erased_image_is_sound, sound_image_breaks_no_rule};
 use run_frames::frames_come_in_parts;
 use run_model::{scripts_are_answered_in_order, scripts_come_in_parts};
-use run_repair::cut_images_are_repaired;
+use run_repair::{cut_images_are_repaired, interrupted_repairs_lose_nothing};
 use space_plan::{planned_flash_has_enough, planned_flash_has_enough_for_rings};
 use stored::sound_files_are_a_sound_database;
 
@@ -136,20 +138,41 @@ pub fn runs_survive_cuts()
     sound_image_breaks_no_rule();
 }
 
-/// And a repair of what is left, in which nothing fails, ends with 0, and the image is sound and stands for such a database,
-/// put right; or with 3, where it lacks pages; or with 6, where the database is the empty one.
+/// And a repair of what is left ends with 0, and the image is sound and stands for such a database, put right; or it still
+/// mends to that, put right, with 3, where it lacks pages, and with 4, where the failures of its flash are cuts; or it ends
+/// with 6, where the database is the empty one.
 pub fn repairs_restore_what_cuts_left()
     ensures scripts { (read : List ℕ → Result Command Refusal) → IsReader read → (status : ℕ) (old new : Moment)
         → IsSound old.world.image → (sectors : ℕ) → length new.world.image ≡ 4096 * sectors
         → IsRun Run true status old new → (repair : ℕ) (image : List ℕ) (held now : Option (List ℕ))
-        → Repairs repair new.world.image image held now → repair ≢ 4 → repair ≢ 5
+        → Repairs repair new.world.image image held now
+        → (repair ≡ 4 → StaysOrMends new.world.image image) → repair ≢ 5
         → InputRestores script_line (script_talk read) old.world new.world repair image }
     ensures served { (read : List ℕ → Result Command Refusal) → IsReader read → (status : ℕ) (old new : Moment)
         → IsSound old.world.image → (sectors : ℕ) → length new.world.image ≡ 4096 * sectors
         → IsRun Serve true status old new → (repair : ℕ) (image : List ℕ) (held now : Option (List ℕ))
-        → Repairs repair new.world.image image held now → repair ≢ 4 → repair ≢ 5
+        → Repairs repair new.world.image image held now
+        → (repair ≡ 4 → StaysOrMends new.world.image image) → repair ≢ 5
         → InputRestores frame_line (serve_talk read) old.world new.world repair image }
 {
     runs_survive_cuts();
     cut_images_are_repaired();
+}
+
+/// So however many repairs of what is left are interrupted, one behind them that ends with 0 leaves a sound image, which
+/// stands for such a database, put right once for each.
+pub fn interrupted_repairs_restore_what_cuts_left()
+    ensures scripts { (read : List ℕ → Result Command Refusal) → IsReader read → (status : ℕ) (old new : Moment)
+        → IsSound old.world.image → (sectors : ℕ) → length new.world.image ≡ 4096 * sectors
+        → IsRun Run true status old new → (repairs : ℕ) (left image : List ℕ) (held now : Option (List ℕ))
+        → AreInterrupted repairs new.world.image left → Repairs 0 left image held now
+        → InputRestoredAfter script_line (script_talk read) old.world new.world (suc repairs) image }
+    ensures served { (read : List ℕ → Result Command Refusal) → IsReader read → (status : ℕ) (old new : Moment)
+        → IsSound old.world.image → (sectors : ℕ) → length new.world.image ≡ 4096 * sectors
+        → IsRun Serve true status old new → (repairs : ℕ) (left image : List ℕ) (held now : Option (List ℕ))
+        → AreInterrupted repairs new.world.image left → Repairs 0 left image held now
+        → InputRestoredAfter frame_line (serve_talk read) old.world new.world (suc repairs) image }
+{
+    runs_survive_cuts();
+    interrupted_repairs_lose_nothing();
 }

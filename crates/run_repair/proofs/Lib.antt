@@ -1,3 +1,5 @@
+pub mod Interrupted
 pub mod Mended
 pub mod Rooms
 pub mod Settled
+pub mod Told

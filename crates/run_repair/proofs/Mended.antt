@@ -1,30 +1,26 @@
 -- The database that an image mends to is the one that stands in it once it is repaired.
-use Rattle.std.proofs.Common.{◌≡◌, inl, inr, ⊎_elim, ℕ, ◌*◌, Bool, List, length, Option, None, Some, true, false, refl, ap, sym, subst, ◌∙◌, arith}
-use Rattle.std.specs.Prelude.{◌≢◌, ◌⊎◌, [], is_some, ⊤, Result, Ok, Err, IfErr, IfOk, OnOk}
+use Rattle.std.proofs.Common.{◌≡◌, inl, inr, ⊎_elim, ℕ, ◌*◌, List, length, Option, None, Some, false, refl, ap, sym, subst, ◌∙◌, arith}
+use Rattle.std.specs.Prelude.{◌≢◌, [], is_some, ⊤, Result, Ok, Err, IfErr, IfOk, OnOk}
 use Rattle.std.proofs.lemmas.Result.{IfOk-weaker, on_ok_weaker}
 use Rattle.afl_base.specs.Files.{File, State, Table}
-use Rattle.coffee_cuts.specs.Cuts.{MendsTo, Nothing, settled}
-use Rattle.coffee_find.specs.Found.{IsCutBy, meant}
-use Rattle.coffee_find.specs.declared.trouble.Trouble.{Trouble}
-use Rattle.coffee_layout.specs.Files.{files_of}
 use Rattle.coffee_layout.specs.Rules.{broken_image}
 use Rattle.coffee_layout.specs.declared.unit.BadImage.{BadImage}
 use Rattle.coffee_mend.specs.Mended.{IsMended}
 use Rattle.coffee_volume.specs.Cuts.{MendsToFiles}
-use Rattle.coffee_volume.specs.Mounting.{HasEach, HasOnly, mounted_state}
+use Rattle.coffee_volume.specs.Mounting.{mounted_state}
 use Rattle.db_model.specs.Database.{Database, empty_database}
 use Rattle.space_model.specs.FileNames.{bytes_in_file, catalog_file, file_named, is_there}
 use Rattle.stored.proofs.MendedBase.{mended_none}
 use Rattle.image_model.specs.Images.{IsFirstBroken, IsSound, base, files_of_image}
 use Rattle.image_model.specs.Mending.{ImageMendsTo, ImageReadsAs}
 use Rattle.image_model.proofs.Mounted.{mounted_files}
-use Rattle.image_model.proofs.OneBase.{one_base, own_files, sound_base, sound_is, table_mends}
+use Rattle.image_model.proofs.OneBase.{one_base, sound_is, table_mends}
 use Rattle.stored.specs.Mended.{mended_base, whole_bytes}
 use Rattle.stored.specs.Sound.{BreaksFirst, IsSoundTable}
 use Rattle.stored_mend.specs.Mending.{IsPutRight}
 use Rattle.stored_mend.proofs.PutRight.{put_right_same}
 use Rattle.run_repair.specs.Findings.{MayBeCut}
-use Rattle.run_repair.specs.Mends.{IsHindered, IsRestored}
+use Rattle.run_repair.specs.Mends.{IsHindered, IsRestored, MendsButLacks, MendsPutRight, OnSpaceless, StaysOrMends, StillMendsButLacks}
 use Rattle.run_repair.specs.Outcomes.{RepairsTo}
 use Rattle.run_repair.specs.Repairs.{Leaves, Repairs, database_in, status_after}
 use Rattle.run_repair.specs.declared.came.Came.{Came}
@@ -35,13 +31,14 @@ use Rattle.run_repair.specs.declared.came.Hindrance.TheVariants.{Spaceless, Unse
 -- ---- what is left
 
 -- and is so whatever hinders it after its first write
-pub left_hindered : (old new : List ℕ) (came : Result Came Hindrance) (why : Hindrance) → (IsSound old → ⊥) → MayBeCut old → IsHindered why → came ≡ Err why → Leaves old new came
-left_hindered old new came why unsound cut hindered is = subst (Leaves old new) (sym is) (by_reason why hindered)
+pub left_hindered : (old new : List ℕ) (came : Result Came Hindrance) (why : Hindrance) → (IsSound old → ⊥) → MayBeCut old → IsHindered why → OnSpaceless why (StillMendsButLacks old new) → came ≡ Err why
+    → Leaves old new came
+left_hindered old new came why unsound cut hindered lacking is = subst (Leaves old new) (sym is) (by_reason why hindered lacking)
   where
-    by_reason : (why : Hindrance) → IsHindered why → Leaves old new (Err why)
-    by_reason (Spaceless need) h = (unsound, cut, h)
-    by_reason (Unsettled bad) h = absurd h
-    by_reason Failed h = inr (unsound, cut)
+    by_reason : (why : Hindrance) → IsHindered why → OnSpaceless why (StillMendsButLacks old new) → Leaves old new (Err why)
+    by_reason (Spaceless need) h l = (unsound, cut, l)
+    by_reason (Unsettled bad) h l = absurd h
+    by_reason Failed h l = inr (unsound, cut)
 
 -- an image that is repaired stands for the database that its files mend to
 pub left_repaired : (old mid late new : List ℕ) → (IsSound old → ⊥) → MayBeCut old → IsMended old mid → IsRestored (files_of_image mid) late → new ≡ late → Leaves old new (Ok Repaired)
@@ -101,8 +98,8 @@ no_catalog files without = mended_none files (ap whole_bytes (by_file (file_name
     by_file (Some f) e none = cc
 
 pub cut_repaired : (status : ℕ) (old new : List ℕ) (held now : Option (List ℕ)) (db : Database) (sectors : ℕ) → length old ≡ 4096 * sectors → ImageMendsTo old (λ mended. mended ≡ db)
-    → Repairs status old new held now → status ≢ 4 → status ≢ 5 → RepairsTo status db old new
-cut_repaired status old new held now db sectors size m r unfailed unsaid = ⊎_elim
+    → Repairs status old new held now → (status ≡ 4 → StaysOrMends old new) → status ≢ 5 → RepairsTo status db old new
+cut_repaired status old new held now db sectors size m r cut unsaid = ⊎_elim
     (λ (all : (status ≡ status_after r.came) × _). by_came r.came r.leaves all.0)
     (λ (less : (status ≡ 5) × _). absurd (unsaid less.0))
     r.says
@@ -110,13 +107,21 @@ cut_repaired status old new held now db sectors size m r unfailed unsaid = ⊎_e
     reads : ImageReadsAs old (λ mended. mended ≡ db)
     reads = record { files = m.files; mends_to = m.mends_to; is = m.is }
 
+    -- what an image mends to is the database
+    same : (files : Table) → MendsToFiles old files → mended_base files ≡ db
+    same files n = one_base old files m.files sectors size n m.mends_to ∙ m.is
+
+    by_cut : StaysOrMends old new → MendsPutRight db new
+    by_cut (inl stays) = subst (MendsPutRight db) (sym stays) (record { files = m.files; mends_to = m.mends_to; cut = m.cut; is = put_right_same db (mended_base m.files) m.is })
+    by_cut (inr still) = subst (λ d. MendsPutRight d new) (same still.files still.mends_to) still.is
+
     by_came : (came : Result Came Hindrance) → Leaves old new came → status ≡ status_after came → RepairsTo status db old new
     by_came (Ok Sound) l e = let r = left_there old new (Ok Sound) db sectors size reads l refl in inl (e, record { sound = r.0; base_is = r.1 })
     by_came (Ok Repaired) l e = let r = left_there old new (Ok Repaired) db sectors size reads l refl in inl (e, record { sound = r.0; base_is = r.1 })
-    by_came (Ok (Strange bad)) l e = let r = l.strange.of_no_cut m.files m.mends_to m.cut in inr (inr (e, record { same = l.same; empty = sym m.is ∙ no_catalog m.files r.0 }))
-    by_came (Err (Spaceless need)) l e = inr (inl e)
-    by_came (Err (Unsettled bad)) l e = absurd l.2
-    by_came (Err Failed) l e = absurd (unfailed e)
+    by_came (Ok (Strange bad)) l e = let r = l.strange.of_no_cut m.files m.mends_to m.cut in inr (inr (inr (e, record { same = l.same; empty = sym m.is ∙ no_catalog m.files r.0 })))
+    by_came (Err (Spaceless need)) l e = let s = l.2 in inr (inl (e, (need, subst (λ d. MendsButLacks d new need) (same s.files s.mends_to) s.is)))
+    by_came (Err (Unsettled bad)) l e = absurd l
+    by_came (Err Failed) l e = inr (inr (inl (e, by_cut (cut e))))
 
 pub repaired_base : (old new : List ℕ) (held now : Option (List ℕ)) (db : Database) (sectors : ℕ) → length old ≡ 4096 * sectors → ImageReadsAs old (λ mended. mended ≡ db)
     → Repairs 0 old new held now → IsSound new × IsPutRight db (base new)

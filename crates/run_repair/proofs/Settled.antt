@@ -5,7 +5,7 @@ use Rattle.std.specs.Prelude.{is_some, ⊤, Result, Err, IfErr}
 use Rattle.afl_base.specs.Files.{IsNamed, IsUnnamed, Table}
 use Rattle.afl_base.specs.Image.{zeros_at}
 use Rattle.coffee_cuts.specs.Cuts.{settled}
-use Rattle.coffee_find.specs.Found.{HasRecord, IsCutBy, IsSoundBut, IsTornAt, IsTroubleInside, MendsToNone, meant}
+use Rattle.coffee_find.specs.Found.{HasRecord, IsCutBy, IsTroubleInside, MendsToNone, meant}
 use Rattle.coffee_find.specs.declared.trouble.TornRecord.{TornRecord}
 use Rattle.coffee_find.specs.declared.trouble.Trouble.{Trouble}
 use Rattle.coffee_layout.specs.Files.{files_of}
@@ -23,7 +23,7 @@ use Rattle.catalog.proofs.Named.{named_none}
 use Rattle.stored.proofs.SoundCut.{named_there}
 use Rattle.stored.specs.CutTables.{IsCutTable}
 use Rattle.flash_views.specs.Views.{blanked}
-use Rattle.run_repair.specs.Findings.{ErasesInVain, IsCutDatabase, IsErasedInVain, IsLeftByCut, IsOfNoCut, IsStrange, IsSurveyed, erased_sector, settled_image, torn_place}
+use Rattle.run_repair.specs.Findings.{IsLeftByCut, IsOfNoCut, IsStrange, IsSurveyed, erased_sector, settled_image, torn_place}
 
 -- the image that is settled is sound, and has the files that the image mends to
 pub settles_to : (image : List ℕ) (trouble : Trouble) (sectors : ℕ) → length image ≡ 4096 * sectors → IsTroubleInside (length image) trouble → IsCutBy image trouble

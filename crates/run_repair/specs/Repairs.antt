@@ -1,7 +1,9 @@
 -- What a repair leaves of an image, and what it says of it.
-use Rattle.std.specs.Prelude.{◌≡◌, ◌⊎◌, ℕ, List, [], ◌++◌, Option, Result, Ok, Err, codes}
+use Rattle.std.specs.Prelude.{◌≡◌, ◌⊎◌, ⊤, ℕ, List, [], ◌++◌, Option, Result, Ok, Err, codes}
 use Rattle.std.specs.Io.KnownBytes.{append_known}
+use Rattle.afl_base.specs.Files.{Table}
 use Rattle.coffee_layout.specs.declared.unit.BadImage.{BadImage}
+use Rattle.coffee_volume.specs.Cuts.{MendsToFiles}
 use Rattle.db_model.specs.Database.{Database}
 use Rattle.db_model.specs.ReplyText.{line, refusal_text}
 use Rattle.db_model.specs.declared.refusals.Refusal.TheVariants as no
@@ -12,9 +14,10 @@ use Rattle.image_model.specs.Mending.{ImageReadsAs}
 use Rattle.stored.specs.Mended.{mended_base}
 use Rattle.stored_mend.specs.Mending.{IsPutRight}
 use Rattle.stored_mend.specs.Report.{report_text}
+use Rattle.stored_mend.specs.Reported.{IsReported}
 use Rattle.stored_mend.specs.declared.report.Mended.{Mended}
 use Rattle.run_repair.specs.Findings.{IsStrange, MayBeCut}
-use Rattle.run_repair.specs.Mends.{IsHindered}
+use Rattle.run_repair.specs.Mends.{StillMendsButLacks}
 use Rattle.run_repair.specs.declared.came.Came.{Came}
 use Rattle.run_repair.specs.declared.came.Came.TheVariants.{Sound, Repaired, Strange}
 use Rattle.run_repair.specs.declared.came.Hindrance.{Hindrance}
@@ -49,14 +52,26 @@ pub record IsLeftStrange (old new : List ℕ) (bad : BadImage) : Type 0 where
   pub strange : IsStrange old bad.rule bad.place
 
 -- what is left of an image: it is sound, and as it was; it was not, and is, and stands for the database that it mended to,
--- put right; it is as it was, since no cut can have left it; or the repair came to no end. It is written only where it is
--- not sound, and a cut can have left it
+-- put right; it is as it was, since no cut can have left it; or the repair came to no end: where pages were lacking it
+-- still mends to that database, put right. It is written only where it is not sound, and a cut can have left it
 abbrev pub Leaves : (old new : List ℕ) → Result Came Hindrance → Type 0
 Leaves old new (Ok Sound) = IsSound old × (new ≡ old)
 Leaves old new (Ok Repaired) = (IsSound old → ⊥) × MayBeCut old × IsSound new × ImageReadsAs old (λ db. IsPutRight db (base new))
 Leaves old new (Ok (Strange bad)) = IsLeftStrange old new bad
+Leaves old new (Err (Spaceless need)) = (IsSound old → ⊥) × MayBeCut old × StillMendsButLacks old new need
+Leaves old new (Err (Unsettled bad)) = ⊥
 Leaves old new (Err Failed) = (new ≡ old) ⊎ ((IsSound old → ⊥) × MayBeCut old)
-Leaves old new (Err why) = (IsSound old → ⊥) × MayBeCut old × IsHindered why
+
+-- the lines are those of what was changed in the files that an image mended to
+pub record IsReportedOf (old new : List ℕ) (mended : List Mended) : Type 0 where
+  pub files : Table
+  pub mends_to : MendsToFiles old files
+  pub lines : IsReported files (files_of_image new) mended
+
+-- so they are where it was repaired
+abbrev pub IsToldOf : (old new : List ℕ) → List Mended → Result Came Hindrance → Type 0
+IsToldOf old new mended (Ok Repaired) = IsReportedOf old new mended
+IsToldOf old new mended _ = ⊤
 
 -- the database that the files of an image mend to
 abbrev pub database_in : List ℕ → Database
@@ -68,6 +83,7 @@ pub record Repairs (status : ℕ) (old new : List ℕ) (held now : Option (List 
   pub mended : List Mended
   pub leaves : Leaves old new came
   pub says : IsSaid status mended came held now
+  pub told : IsToldOf old new mended came
 
 -- the statuses of a repair
 abbrev pub IsRepairStatus : ℕ → Type 0

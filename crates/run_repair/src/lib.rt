@@ -15,5 +15,8 @@ mod verdicts;
 
 pub use checking::check;
 pub use judging::judge_image;
-pub use laws::{cut_images_are_repaired, repaired_images_stand_for_what_they_mended_to};
+pub use laws::{
+    cut_images_are_repaired, interrupted_repairs_lose_nothing,
+    repaired_images_stand_for_what_they_mended_to,
+};
 pub use repairing::repair;

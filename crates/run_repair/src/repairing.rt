@@ -1,10 +1,10 @@
-ghost use Rattle.std.specs.Prelude.{◌≡◌, ◌≤◌, Err, IfErr, IsTrue, OnOk, length};
+ghost use Rattle.std.specs.Prelude.{◌≡◌, ◌≤◌, [], Err, IfErr, IsTrue, OnOk, length};
 ghost use Rattle.afl_base.specs.Causes.{Rose};
 ghost use Rattle.coffee_find.specs.Found.{IsCutBy, IsTroubleInside};
 ghost use Rattle.coffee_mend.specs.Mended.{IsMended};
 ghost use Rattle.run_repair.specs.Findings.{IsLeftByCut};
-ghost use Rattle.run_repair.specs.Mends.{IsHindered};
-ghost use Rattle.run_repair.specs.Repairs.{IsRepairStatus, Leaves, Repairs};
+ghost use Rattle.run_repair.specs.Mends.{IsHindered, OnFault, OnSpaceless, StaysOrMends, StillMends, StillMendsButLacks};
+ghost use Rattle.run_repair.specs.Repairs.{IsRepairStatus, IsToldOf, Leaves, Repairs};
 ghost use Rattle.image_model.specs.Images.{IsSound};
 ghost use Rattle.run_repair.specs.declared.came.Hindrance.TheVariants.{Failed as FaultOfFlash};
 
@@ -24,14 +24,17 @@ use stored_mend::Report;
 ///
 /// | status | comes |
 /// |---|---|
-/// | 0 | the image was sound: `sound` was written, and it is as it was; or it was not, and is now, and stands for the database that it mended to, in which a relation may have one removed row more, and an index that had a tree may be gone: a line was written for each thing that was put right in its database, and `repaired` |
-/// | 3 | no extent of N pages is available for what must be repaired, and `no space N` was written |
-/// | 4, 5 | only where the flash, the sink counted a fault |
+/// | 0 | the image was sound: `sound` was written, and it is as it was; or it was not, and is now, and stands for the database that it mended to, in which a relation may have one removed row more, and an index that had a tree may be gone: a line was written for each thing that was changed in its database, and for no other, and `repaired` |
+/// | 3 | no extent of N pages is available for what must be repaired, and `no space N` was written; the image still mends to that database, put right, so that another repair can end this one |
+/// | 4 | only where the flash counted a fault; where its failures are cuts, the image is as it was, or still mends to that database, put right |
+/// | 5 | only where the sink counted a fault |
 /// | 6 | the image is not sound, and no cut leaves such a one: it is as it was, and `no image RULE PLACE` was written |
 pub fn repair<F: Flash, K: Sink>(out: &mut K, flash: &mut F) -> u8
     ensures only { IsRepairStatus result }
     ensures told { IsTrue F.tells
         → Repairs result (F.image flash.old) (F.image flash.new) (K.held out.old) (K.held out.new) }
+    ensures cut { IsTrue F.tells → IsTrue F.cuts → result ≡ 4
+        → StaysOrMends (F.image flash.old) (F.image flash.new) }
     ensures flash { result ≡ 4 → Rose (F.faults flash.old) (F.faults flash.new) }
     ensures sink { result ≡ 5 → Rose (K.faults out.old) (K.faults out.new) }
     ensures size { length (F.image flash.new) ≡ length (F.image flash.old) }
@@ -46,9 +49,13 @@ pub fn repair<F: Flash, K: Sink>(out: &mut K, flash: &mut F) -> u8
 // What a repair comes to. What is wrong is found by reading alone, before anything is written.
 fn put_right<F: Flash>(flash: &mut F, report: &mut Report) -> Result<Came, Hindrance>
     ensures leaves { IsTrue F.tells → Leaves (F.image flash.old) (F.image flash.new) result }
+    ensures cut { IsTrue F.tells → IsTrue F.cuts
+        → IfErr result (λ why. OnFault why (StaysOrMends (F.image flash.old) (F.image flash.new))) }
     ensures size { length (F.image flash.new) ≡ length (F.image flash.old) }
     ensures lent { F.lent flash.new ≡ F.lent flash.old }
     ensures cause { result ≡ Err FaultOfFlash → Rose (F.faults flash.old) (F.faults flash.new) }
+    ensures reported { IsTrue F.tells → report.old.mended ≡ []
+        → IsToldOf (F.image flash.old) (F.image flash.new) report.new.mended result }
 {
     match find_out(flash)? {
         Finding::Sound => Ok(Came::Sound),
@@ -69,9 +76,13 @@ fn put_cut_right<F: Flash>(
     ensures leaves { IsTrue F.tells → (IsSound (F.image flash.old) → ⊥)
         → IsLeftByCut (F.image flash.old) trouble.now
         → Leaves (F.image flash.old) (F.image flash.new) result }
+    ensures cut { IsTrue F.tells → IsTrue F.cuts → IsLeftByCut (F.image flash.old) trouble.now
+        → IfErr result (λ why. OnFault why (StillMends (F.image flash.old) (F.image flash.new))) }
     ensures size { length (F.image flash.new) ≡ length (F.image flash.old) }
     ensures lent { F.lent flash.new ≡ F.lent flash.old }
     ensures cause { result ≡ Err FaultOfFlash → Rose (F.faults flash.old) (F.faults flash.new) }
+    ensures reported { IsTrue F.tells → IsLeftByCut (F.image flash.old) trouble.now → report.old.mended ≡ []
+        → IsToldOf (F.image flash.old) (F.image flash.new) report.new.mended result }
 {
     sound_image_breaks_no_rule();
     flash.sectors();
@@ -90,11 +101,16 @@ fn mend_files<F: Flash>(flash: &mut F, trouble: &Trouble, bad: BadImage) -> Resu
         → OnOk result (IsMended (F.image flash.old) (F.image flash.new)) }
     ensures hindered { IsTrue F.tells → IsCutBy (F.image flash.old) trouble.now
         → IfErr result IsHindered }
+    ensures space { IsTrue F.tells → IsLeftByCut (F.image flash.old) trouble.now
+        → IfErr result (λ why. OnSpaceless why (StillMendsButLacks (F.image flash.old) (F.image flash.new))) }
+    ensures cut { IsTrue F.tells → IsTrue F.cuts → IsLeftByCut (F.image flash.old) trouble.now
+        → IfErr result (λ why. OnFault why (StillMends (F.image flash.old) (F.image flash.new))) }
     ensures size { length (F.image flash.new) ≡ length (F.image flash.old) }
     ensures lent { F.lent flash.new ≡ F.lent flash.old }
     ensures later { F.faults flash.old ≤ F.faults flash.new }
     ensures cause { result ≡ Err FaultOfFlash → Rose (F.faults flash.old) (F.faults flash.new) }
 {
+    flash.sectors();
     match mend(flash, trouble) {
         Ok(()) => Ok(()),
         Err(MendError::Space { need }) => Err(Hindrance::Spaceless { need }),

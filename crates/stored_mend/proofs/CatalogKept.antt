@@ -1,8 +1,9 @@
 -- Steps that change the file of the catalog, and what the files mend to afterwards.
-use Rattle.std.proofs.Common.{◌≡◌, ◌≢◌, inl, inr, ℕ, ◌+◌, ◌*◌, ◌<◌, ◌≤◌, Bool, true, false, List, [], ◌++◌, length, drop, Option, Some, None, IsTrue, refl, ap, sym, subst, ◌∙◌, arith, length-append}
+use Rattle.std.proofs.Common.{◌≡◌, ◌≢◌, inl, inr, ℕ, ◌+◌, ◌*◌, ◌<◌, ◌≤◌, Bool, true, false, List, [], ◌++◌, length, drop, take, Option, Some, None, IsTrue, refl, ap, sym, subst, ◌∙◌, arith, length-append}
 use Rattle.std.specs.Prelude.{◌==◌, if◌then◌else◌, IfNone, IfSome, get_or, is_some, nat_lt, option_map, slice_index, slice_range}
 use Rattle.std.proofs.Math.Logic.{⊎_elim}
 use Rattle.std.proofs.lemmas.Bool.{cases_eq}
+use Rattle.std.proofs.lemmas.List.{length-take-le}
 use Rattle.afl_base.specs.Fields.{put_at}
 use Rattle.afl_base.specs.Files.{Appends, Becomes, IsNamed, IsUnnamed, KeepsBytes, Overwrites, State, Table, bytes_at, size_at}
 use Rattle.afl_base.proofs.FieldLaws.{length-put_at}
@@ -18,7 +19,7 @@ use Rattle.db_model.specs.Database.{Database}
 use Rattle.space_model.specs.FileNames.{bytes_in_file, bytes_named, catalog_file, is_there, rows_file, tree_file}
 use Rattle.stored.specs.CutTables.{IsSlot}
 use Rattle.stored.specs.Mended.{mended_base, mended_version, standing, whole_bytes, whole_catalog}
-use Rattle.stored.proofs.CatalogParts.{overwritten_cleared, overwritten_index, relation_not_changed}
+use Rattle.stored.proofs.CatalogParts.{IsFrontPart, overwritten_cleared, overwritten_index, relation_not_changed}
 use Rattle.stored.proofs.MendedBase.{alike_is, base_same_slots, index_mended, index_stays, index_waits, relation_mended_at, relation_read, relation_stays, version_mended, whole_long, whole_short}
 use Rattle.stored.proofs.MendedTables.{AreRowsKept, ReadsIndex, ReadsRelation, ReadsSame, mended_alike}
 use Rattle.stored.specs.declared.half.Half.{Half}
@@ -156,46 +157,56 @@ version_long old now long size relations =
 
 -- ---- the mark
 
--- the rest of it is written where the catalog is of version 2 as it stands
-pub mark_kept : (old new : State) (cat : ℕ) (more : List ℕ) → IsWholeCatalog old.files cat → Appends old new cat more → size_at old.files cat + length more ≡ 1480
+-- some of it is written where the catalog is of version 2 as it stands
+pub mark_grown : (old new : State) (cat : ℕ) (more : List ℕ) → IsWholeCatalog old.files cat → Appends old new cat more → size_at old.files cat + length more ≢ 1472
     → WantsMark old → MendsAsBefore old new
-mark_kept old new cat more w a all version = record {
+mark_grown old new cat more w a some version = record {
   base = λ t.
       let was : List ℕ = bytes_at old.files cat in
-      let size : length (was ++ more) ≡ 1480 = length-append was more ∙ all in
-      let whole : whole_bytes (was ++ more) ≡ was ++ more = whole_long (was ++ more) (omega (arith, size)) in
-      let differs : length (was ++ more) ≢ 1472 = λ e. absurd (omega (arith, e, size)) in
+      let long = w.long in
+      let size : length (was ++ more) ≡ size_at old.files cat + length more = length-append was more in
+      let whole : whole_bytes (was ++ more) ≡ was ++ more = whole_long (was ++ more) (omega (arith, size, long)) in
       same_base old new cat (size_at old.files cat + length more) (was ++ more) w a t (appended_reads was more w.long)
-      (ap mended_version whole ∙ version_marked (was ++ more) differs ∙ sym (version t) ∙ ap mended_version (ap whole_bytes (catalog_before old.files cat w)));
+      (ap mended_version whole ∙ version_marked (was ++ more) (λ e. some (sym size ∙ e)) ∙ sym (version t) ∙ ap mended_version (ap whole_bytes (catalog_before old.files cat w)));
   draft = a.draft;
   tells = a.tells;
 }
+
+-- so it is with the rest of it
+pub mark_kept : (old new : State) (cat : ℕ) (more : List ℕ) → IsWholeCatalog old.files cat → Appends old new cat more → size_at old.files cat + length more ≡ 1480
+    → WantsMark old → MendsAsBefore old new
+mark_kept old new cat more w a all version = mark_grown old new cat more w a (λ e. absurd (omega (arith, e, all))) version
 
 pub marked_in_part : (files : Table) (cat : ℕ) → IsWholeCatalog files cat → size_at files cat ≢ 1472 → mended_version (whole_catalog files) ≡ 2
 marked_in_part files cat w differs = ap mended_version (whole_found files cat w) ∙ version_marked (bytes_at files cat) differs
 
 -- ---- slots
 
--- a slot without a name is emptied
-pub emptied_kept : (old new : State) (cat slot : ℕ) → IsWholeCatalog old.files cat → slot < 8 → Overwrites old new cat (176 * slot) (relation_slot_bytes None)
-    → HasInSlot old slot None → MendsAsBefore old new
-emptied_kept old new cat slot w below o unused = record {
+-- a slot without a name is emptied, or a front part of it up to where a region ends
+pub emptied_front : (old new : State) (cat slot n : ℕ) → IsWholeCatalog old.files cat → slot < 8 → n ≤ 176 → IsFrontPart (176 * slot) 176 n
+    → Overwrites old new cat (176 * slot) (take n (relation_slot_bytes None)) → HasInSlot old slot None → MendsAsBefore old new
+emptied_front old new cat slot n w below few front o unused = record {
   base = λ t.
       let was : List ℕ = bytes_at old.files cat in
-      let now : List ℕ = put_at was (176 * slot) (relation_slot_bytes None) in
+      let part : List ℕ = take n (relation_slot_bytes None) in
+      let now : List ℕ = put_at was (176 * slot) part in
       let none : relation_at (whole_bytes was) slot ≡ None = ap (λ (xs : List ℕ). relation_at (whole_bytes xs) slot) (sym (catalog_before old.files cat w)) ∙ unused t in
       let reads : ReadsSame was now = ⊎_elim
       (λ (s : ReadsSame was now). s)
       (λ (s : ReadsRelation was now slot None). relation_not_changed was now slot None s none)
-      (overwritten_cleared was slot 176 w.long below (omega arith) (inr (inl refl))) in
+      (overwritten_cleared was slot n w.long below few front) in
       same_base old new cat (size_at old.files cat) now w o t reads
-      (version_long was now w.long (length-put_at was (relation_slot_bytes None) (176 * slot) (room w.long)) reads.relations);
+      (version_long was now w.long (length-put_at was part (176 * slot) (room w.long)) reads.relations);
   draft = o.draft;
   tells = o.tells;
 }
   where
-    room : 1472 ≤ size_at old.files cat → 176 * slot + 176 ≤ size_at old.files cat
-    room long = omega (arith, long, below)
+    room : 1472 ≤ size_at old.files cat → 176 * slot + length (take n (relation_slot_bytes None)) ≤ size_at old.files cat
+    room long = let size = length-take-le n (relation_slot_bytes None) few in omega (arith, long, below, few, size)
+
+pub emptied_kept : (old new : State) (cat slot : ℕ) → IsWholeCatalog old.files cat → slot < 8 → Overwrites old new cat (176 * slot) (relation_slot_bytes None)
+    → HasInSlot old slot None → MendsAsBefore old new
+emptied_kept old new cat slot w below o unused = emptied_front old new cat slot 176 w below (omega arith) (inr (inl refl)) o unused
 
 -- as many attributes as their number says
 attributes_counted : (slot : List ℕ) (schema : Schema) → relation_slot_of slot ≡ Some schema → slice_index slot 160 ≡ length schema.attributes
@@ -209,7 +220,7 @@ attributes_counted slot schema e = by_test (slice_index slot 0 == 0) e
 
 -- bytes behind the attributes are taken back
 pub attribute_kept : (old new : State) (cat slot at : ℕ) (part : List ℕ) (schema : Schema) → IsWholeCatalog old.files cat → slot < 8 → Overwrites old new cat at part
-    → HasInSlot old slot (Some schema) → 18 * length schema.attributes + length part ≡ 144 → at ≡ 176 * slot + (16 + 18 * length schema.attributes) → MendsAsBefore old new
+    → HasInSlot old slot (Some schema) → 18 * length schema.attributes + length part ≤ 144 → at ≡ 176 * slot + (16 + 18 * length schema.attributes) → MendsAsBefore old new
 attribute_kept old new cat slot at part schema w below o is fills there = record {
   base = λ t.
       let was : List ℕ = bytes_at old.files cat in

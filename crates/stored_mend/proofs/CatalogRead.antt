@@ -112,7 +112,7 @@ slot_end xs at m few =
 
 -- what is written from the end of the attributes up to their number is not read
 pub taken_back : (old part : List ℕ) (slot count : ℕ) → 1472 ≤ length old → slot < 8 → slice_index (slice_range old (176 * slot) (176 * slot + 176)) 160 ≡ count
-    → 18 * count + length part ≡ 144 → (at : ℕ) → at ≡ 176 * slot + (16 + 18 * count) → length (put_at old at part) ≡ length old → ReadsSame old (put_at old at part)
+    → 18 * count + length part ≤ 144 → (at : ℕ) → at ≡ 176 * slot + (16 + 18 * count) → length (put_at old at part) ≡ length old → ReadsSame old (put_at old at part)
 taken_back old part slot count long below is fills at there same =
     let now : List ℕ = put_at old at part in
     let first : ℕ = 176 * slot in

@@ -27,7 +27,7 @@ use Rattle.stored_mend.proofs.SameRows.{HaveSameRows, index_keeps, keys_same, ro
 tree_known : (i : ℕ) → i < 8 → is_of_database (tree_file i) Doubling ≡ true
 tree_known i below = both_true (nat_le 48 (48 + i)) (nat_le (48 + i) 55) (le_true 48 (48 + i) (omega arith)) (le_true (48 + i) 55 (omega (arith, below)))
 
-known_at : (old new : Table) (i k : ℕ) → i < 8 → ((f : File) → place new k ≡ Some f → (place old k ≡ Some f) ⊎ IsDoublingOf (tree_file i) f) → is_stranger old k ≡ false → is_stranger new k ≡ false
+pub known_at : (old new : Table) (i k : ℕ) → i < 8 → ((f : File) → place new k ≡ Some f → (place old k ≡ Some f) ⊎ IsDoublingOf (tree_file i) f) → is_stranger old k ≡ false → is_stranger new k ≡ false
 known_at old new i k below known was = by_place (place new k) refl
   where
     by_place : (o : Option File) → place new k ≡ o → elim o [ None ↦ false | Some f ↦ not (is_of_database f.name f.kind) ] ≡ false
@@ -65,10 +65,10 @@ module _ (a b : State) (i : ℕ) (c : SparesButTree a b (tree_file i)) where
     rows = λ k. ap bytes_in_file (c.spares.files (rows_file k) (rows_no_tree k i));
   }
 
-  index_same : (j : ℕ) → get_or (catalog_in b.files).indexes j None ≡ get_or (catalog_in a.files).indexes j None
+  pub index_same : (j : ℕ) → get_or (catalog_in b.files).indexes j None ≡ get_or (catalog_in a.files).indexes j None
   index_same j = ap (λ (slots : Slots). get_or slots.indexes j None) catalog_same
 
-  tree_same : (j : ℕ) → j ≢ i → bytes_named (tree_file j) b.files ≡ bytes_named (tree_file j) a.files
+  pub tree_same : (j : ℕ) → j ≢ i → bytes_named (tree_file j) b.files ≡ bytes_named (tree_file j) a.files
   tree_same j other = ap bytes_in_file (c.spares.files (tree_file j) (λ e. other (same_tree_slot j i e)))
 
   there_same : (j : ℕ) → j ≢ i → is_there (tree_file j) b.files ≡ is_there (tree_file j) a.files

@@ -45,6 +45,14 @@ module _ (attributes : List Attribute) (old new : List ℕ) (f : IsFilledUp attr
       ∙ rows_of-insert attributes (record { tuple = f.removed.tuple; live = false }) (slots_in_bytes attributes old) (whole_rows attributes old) whole_long f.removed.suits
       ∙ ap (λ (rows : List Row). rows ++ record { tuple = f.removed.tuple; live = false } ∷ []) (whole_rows_same attributes old)
 
+  -- it ends behind a row
+  pub filled_long : length new ≡ row_length attributes * suc (slots_in_bytes attributes old)
+  filled_long =
+      let last : Row = record { tuple = f.removed.tuple; live = false } in
+      let front = whole_rows attributes old in
+      let wide = length-row attributes last f.removed.suits in
+      ap (λ (xs : List ℕ). length xs) one_more ∙ length-append front (row_bytes attributes last) ∙ omega (arith, whole_long, wide, mul-suc (row_length attributes) (slots_in_bytes attributes old))
+
   -- so all are rows, where those before it were
   pub filled_are_rows : (version : ℕ) → attributes ≢ [] → slots_in_bytes attributes old < slots_limit version → AreRows version attributes (whole_rows attributes old) → AreRows version attributes new
   filled_are_rows version some few are =

@@ -33,6 +33,22 @@ module _ {S : Type 0} (state : S → State) (borrows : S → List ℕ) (reads fa
     cause = record { later = c.cause.later; failed = λ e. let no : ◌≡◌ {A = Result _ FileError} (Ok x) (Err Failed) = e in absurd (cc) };
   }
 
+  -- a failure that is handed on
+  pub changes_failed : (B E T : Type 0) (old new : S) (e : E) (result : Result T FileError) → result ≡ Err Failed → Changes {T = B} state borrows reads faults old new (Err e) → ChangesOrLacks state borrows reads faults lacking old new result
+  changes_failed B E T old new e result is d =
+      subst (λ (r : Result T FileError). ChangesOrLacks state borrows reads faults lacking old new r) (sym is)
+      (record { store = d.store; lent = d.lent; later = d.later; lacks = tt; cause = record { later = d.cause.later; failed = λ h. d.cause.failed } })
+
+  -- and one that found no space
+  pub changes_space : (A E T : Type 0) (old new : S) (r : Result A E) (need : ℕ) → Changes state borrows reads faults old new r → lacking new need → ChangesOrLacks {T = T} state borrows reads faults lacking old new (Err (Space need))
+  changes_space A E T old new r need c lacks = record {
+    store = c.store;
+    lent = c.lent;
+    later = c.later;
+    lacks = lacks;
+    cause = record { later = c.cause.later; failed = λ e. let no : ◌≡◌ {A = Result T FileError} (Err (Space need)) (Err Failed) = e in absurd (cc) };
+  }
+
   -- behind a call that changed files, another one that did, or found no space
   pub then_ok : {A E B T : Type 0} (old mid new : S) (r : Result A E) (q : Result B FileError) (x : T) → Changes state borrows reads faults old mid r → ChangesOrLacks state borrows reads faults lacking mid new q
       → ChangesOrLacks state borrows reads faults lacking old new (Ok x)

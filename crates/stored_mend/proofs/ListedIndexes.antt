@@ -8,7 +8,7 @@ use Rattle.catalog.specs.Rules.{breaks_index, catalog_bytes_in, has_form, is_tre
 use Rattle.db_model.specs.declared.schemas.Schema.{Schema}
 use Rattle.db_model.specs.Catalog.{index_at, index_slot_bytes, version_of}
 use Rattle.space_model.specs.FileNames.{bytes_in_file, bytes_named, is_there, rows_file, tree_file}
-use Rattle.stored.specs.CutTables.{HasMark, IsBehindSlot, IsHalfDone, IsMarkedInPart, IsSlot, IsTimed, index_read, relation}
+use Rattle.stored.specs.CutTables.{HasMark, IsBegun, IsBehindSlot, IsCutTable, IsHalfDone, IsMarkedInPart, IsSlot, IsTimed, index_read, relation}
 use Rattle.stored.specs.Mended.{mended_base, mended_catalog, whole_bytes, whole_catalog}
 use Rattle.stored.specs.declared.half.Half.{Half}
 use Rattle.stored.specs.declared.half.Half.TheVariants.{Nothing}
@@ -113,3 +113,13 @@ module _ (old new : State) (cat slot : ℕ) (below : slot < 8) (told : IsTrue ol
         left = inr (index_settled new.files slot (λ tree. let no : false ≡ true = sym (ap is_tree none) ∙ tree in absurd (cc)) done.0
             (record { done = blanked_half done.0 done.1.done; ahead = done.1.ahead; mark = marked_to 8 done.1.mark }));
       }
+
+  -- so are files that a cut can have left
+  pub blanked_cut : IsCutTable old.files → IsCutTable new.files
+  blanked_cut cut = record {
+    known = λ id. k.known id ∙ cut.known id;
+    done = ⊎_elim
+        (λ (begun : IsBegun old.files). absurd (let short = begun.short in omega (arith, short, long)))
+        (λ (done : (half : Half) × IsHalfDone old.files half). inr (done.0, blanked_half done.0 done.1))
+        cut.done;
+  }

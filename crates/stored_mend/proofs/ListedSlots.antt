@@ -137,7 +137,7 @@ module _ (old new : State) (cat slot : ℕ) (below : slot < 8) (told : IsTrue ol
 
 -- ---- bytes behind the attributes of a relation
 
-range_range : (xs : List ℕ) (a n m k : ℕ) → m + k ≤ n → slice_range (slice_range xs a (a + n)) m (m + k) ≡ slice_range xs (a + m) (a + m + k)
+pub range_range : (xs : List ℕ) (a n m k : ℕ) → m + k ≤ n → slice_range (slice_range xs a (a + n)) m (m + k) ≡ slice_range xs (a + m) (a + m + k)
 range_range xs a n m k inside =
     let width : a + n - a ≡ n = omega arith in
     let first : m + k - m ≡ k = omega arith in

@@ -122,6 +122,7 @@ module _ (files : Table) (half : Half) (known : (id : ℕ) → is_stranger files
 
   pub catalog_sound : IsCatalogSound files half
   catalog_sound = record {
+    known = known;
     catalog = breaks_nothing files
         (sym (first_nothing (is_stranger files) 32 (λ id below. known id)))
         catalog_kept
@@ -187,6 +188,7 @@ module _ (files : Table) (known : (id : ℕ) → is_stranger files id ≡ false)
 
   pub bare_sound : IsCatalogSound files Nothing
   bare_sound = record {
+    known = known;
     catalog = breaks_nothing files
         (sym (first_nothing (is_stranger files) 32 (λ id below. known id)))
         (empty_breaks_none (catalog_bytes_in files) (ap (λ (xs : List ℕ). length xs) bare.none))

@@ -9,7 +9,7 @@ use Rattle.db_model.specs.declared.schemas.Schema.{Schema}
 use Rattle.db_model.specs.Catalog.{catalog_of, relation_at, relation_slot_bytes}
 use Rattle.padded.proofs.Facts.{both_parts, both_true, bytes_eq_same}
 use Rattle.space_model.specs.FileNames.{bytes_in_file, bytes_named, catalog_file, file_named, rows_file}
-use Rattle.stored.specs.CutTables.{HasMark, IsBehindSlot, IsHalfDone, IsMarkedInPart, IsSlot, IsTimed, relation, slot_bytes}
+use Rattle.stored.specs.CutTables.{HasMark, IsBehindSlot, IsCutTable, IsHalfDone, IsMarkedInPart, IsSlot, IsTimed, relation, slot_bytes}
 use Rattle.stored.specs.Mended.{mended_base, mended_catalog, whole_catalog}
 use Rattle.stored.specs.declared.half.Half.{Half}
 use Rattle.stored.specs.declared.half.Half.TheVariants.{Nothing}
@@ -155,22 +155,27 @@ module _ (old new : Table) (slot : ℕ) (below : slot < 8) (spares : (n : List �
   relations_now : (catalog_of (whole_catalog new)).relations ≡ (catalog_of (whole_catalog old)).relations
   relations_now = slots_same (relation_at (whole_catalog new)) (relation_at (whole_catalog old)) 0 8 (λ k low inside. slot_same old new base k inside)
 
-  module _ (written : slot_bytes new slot ≡ relation_slot_bytes (relation old slot)) where
+  -- the slot is written, or in part where it was under way
+  module _ (now : IsSlot half (mended_catalog old).version slot (slot_bytes new slot) (relation old slot)) where
     slots_now : (k : ℕ) → k < 8 → IsSlot half (mended_catalog old).version k (slot_bytes new k) (relation old k)
     slots_now k inside = ⊎_elim
-        (λ (same : k ≡ slot). subst (λ (j : ℕ). IsSlot half (mended_catalog old).version j (slot_bytes new j) (relation old j)) (sym same)
-        (written_slot half (mended_catalog old).version slot (slot_bytes new slot) (relation old slot)
-        (slot_valid half (mended_catalog old).version slot (slot_bytes old slot) (slot_bytes new slot) (relation old slot) (h.slots slot below) written)))
+        (λ (same : k ≡ slot). subst (λ (j : ℕ). IsSlot half (mended_catalog old).version j (slot_bytes new j) (relation old j)) (sym same) now)
         (λ (differs : k ≢ slot). subst (λ (xs : List ℕ). IsSlot half (mended_catalog old).version k xs (relation old k))
         (sym (ap (λ (xs : List ℕ). slice_range xs (176 * k) (176 * k + 176)) whole_now ∙ d.slots k inside differs ∙ ap (λ (xs : List ℕ). slice_range xs (176 * k) (176 * k + 176)) (sym whole_was)))
         (h.slots k inside))
         (cases_eq k slot)
 
-    pub half_written_slot : (n : ℕ) → IsMarkedTo old n → IsHalfDone new half
-    half_written_slot n m =
+    pub half_slot : (n : ℕ) → IsMarkedTo old n → IsHalfDone new half
+    half_slot n m =
         edited old new base half h spares long (mark_now n m) slots_now
         (λ i inside. breaks_same (whole_catalog old) (whole_catalog new) same_ranges relations_now i inside ∙ h.indexes i inside)
         (λ i inside. inl (index_at_slot new i inside ∙ index_at_same (whole_catalog old) (whole_catalog new) same_ranges i inside ∙ sym (index_at_slot old i inside)))
+
+  module _ (written : slot_bytes new slot ≡ relation_slot_bytes (relation old slot)) where
+    pub half_written_slot : (n : ℕ) → IsMarkedTo old n → IsHalfDone new half
+    half_written_slot =
+        half_slot (written_slot half (mended_catalog old).version slot (slot_bytes new slot) (relation old slot)
+        (slot_valid half (mended_catalog old).version slot (slot_bytes old slot) (slot_bytes new slot) (relation old slot) (h.slots slot below) written))
 
     is_written : IsWritten new slot
     is_written =
@@ -198,4 +203,16 @@ slot_listed old new cat slot below told w k d written l m =
       known = λ id. k.known id ∙ l.known id;
       left = inr (slot_done old.files new.files slot below k.spares.files (k.base told) d done.0 done.1.done
           (written ∙ ap relation_slot_bytes (sym (relation_at_slot old.files slot below))) done.1.ahead m);
+    }
+
+-- so is a slot that is written, or in part where it was under way
+pub slot_cut : (old new : State) (cat slot : ℕ) (reach : Reach) → slot < 8 → IsTrue old.tells → IsWholeCatalog old.files cat → KeepsFiles old new → DifferIn (catalog_bytes_in old.files) (catalog_bytes_in new.files) slot
+    → (l : IsListedTo reach old.files)
+    → ((half : Half) → IsHalfDone old.files half → IsSlot half (mended_catalog old.files).version slot (slot_bytes new.files slot) (relation old.files slot))
+    → IsCutTable new.files
+slot_cut old new cat slot reach below told w k d l now =
+    let done = done_of old.files cat reach w l in
+    record {
+      known = λ id. k.known id ∙ l.known id;
+      done = inr (done.0, half_slot old.files new.files slot below k.spares.files (k.base told) d done.0 done.1.done (now done.0 done.1.done) reach.relations done.1.mark);
     }

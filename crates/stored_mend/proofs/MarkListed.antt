@@ -9,7 +9,7 @@ use Rattle.catalog.specs.Rules.{catalog_bytes_in, has_form}
 use Rattle.db_model.specs.Catalog.{catalog_of, relation_at, version_mark}
 use Rattle.db_model.specs.Database.{Database}
 use Rattle.padded.proofs.Facts.{both_parts, both_true, bytes_eq_same, either_part, either_right, eq_true, slice_of_front, true_eq}
-use Rattle.stored.specs.CutTables.{IsBehindSlot, IsHalfDone, IsMarkedInPart, IsSlot, IsTimed, relation}
+use Rattle.stored.specs.CutTables.{HasMark, IsBehindSlot, IsHalfDone, IsMarkedInPart, IsSlot, IsTimed, relation}
 use Rattle.stored.specs.Mended.{mended_base, mended_catalog, mended_version, whole_catalog}
 use Rattle.stored.specs.declared.half.Half.{Half}
 use Rattle.stored.specs.declared.half.Half.TheVariants.{Nothing}
@@ -142,12 +142,16 @@ module _ (old new : State) (cat : ℕ) (more : List ℕ) (w : IsWholeCatalog old
       ap (λ (xs : List ℕ). length xs) now_is ∙ length-append (catalog_bytes_in old.files) more ∙ completed_size (catalog_bytes_in old.files) more f (is ∙ ap (λ (k : ℕ). drop k version_mark) n_is) in
       (form, ap (λ (n : ℕ). if n == 1472 then 1 else 2) many ∙ sym version)
 
-  pub marked_half : IsMarked new.files → IsHalfDone new.files half
-  marked_half marked =
-      edited old.files new.files base half h (spares_catalog old new cat _ _ w.named a).files long (inl marked)
+  -- what is half done stays so
+  pub marked_with : HasMark new.files half → IsHalfDone new.files half
+  marked_with mark =
+      edited old.files new.files base half h (spares_catalog old new cat _ _ w.named a).files long mark
       (λ k inside. subst (λ (xs : List ℕ). IsSlot half (mended_catalog old.files).version k xs (relation old.files k)) (sym (front_same (176 * k) (176 * k + 176) (omega arith) (omega (arith, inside)))) (h.slots k inside))
       (λ i inside. breaks_same (whole_catalog old.files) (whole_catalog new.files) ranges relations_now i inside ∙ h.indexes i inside)
       (λ i inside. inl (index_at_slot new.files i inside ∙ index_at_same (whole_catalog old.files) (whole_catalog new.files) ranges i inside ∙ sym (index_at_slot old.files i inside)))
     where
       ranges : (i : ℕ) → i < 8 → slice_range (whole_catalog new.files) (1408 + 8 * i) (1408 + 8 * i + 8) ≡ slice_range (whole_catalog old.files) (1408 + 8 * i) (1408 + 8 * i + 8)
       ranges i inside = front_same (1408 + 8 * i) (1408 + 8 * i + 8) (omega arith) (omega (arith, inside))
+
+  pub marked_half : IsMarked new.files → IsHalfDone new.files half
+  marked_half marked = marked_with (inl marked)

@@ -1,5 +1,5 @@
 -- Bytes that are put in the place of others, and taken back.
-use Rattle.std.proofs.Common.{◌≡◌, ℕ, zero, suc, ◌+◌, ◌-◌, ◌≤◌, true, List, [], ◌∷◌, ◌++◌, length, take, drop, replicate, refl, sym, ap, ◌∙◌, arith, append_assoc}
+use Rattle.std.proofs.Common.{◌≡◌, ℕ, zero, suc, ◌+◌, ◌-◌, ◌≤◌, true, List, [], ◌∷◌, ◌++◌, length, take, drop, replicate, refl, sym, ap, ◌∙◌, arith, append_assoc, length-append}
 use Rattle.std.specs.Prelude.{◌==◌, slice_range}
 use Rattle.std.proofs.Math.Seq.{drop-append-add}
 use Rattle.std.proofs.lemmas.List.{drop-drop, length-take-le, length-drop, take-append-drop}
@@ -82,3 +82,32 @@ pub take_zeros : (n k : ℕ) → n ≤ k → take n (replicate {A = ℕ} k 0) �
 take_zeros zero k few = refl
 take_zeros (suc n) zero few = absurd (omega (arith, few))
 take_zeros (suc n) (suc k) few = ap (λ (zs : List ℕ). 0 ∷ zs) (take_zeros n k (omega (arith, few)))
+
+-- two parts of a list
+pub take_both : (m n : ℕ) (xs : List ℕ) → take m xs ++ take n (drop m xs) ≡ take (m + n) xs
+take_both zero n xs = let e : n ≡ 0 + n = omega arith in ap (λ (k : ℕ). take k xs) e
+take_both (suc m) n [] = nothing n ∙ sym (nothing (suc m + n))
+  where
+    nothing : (k : ℕ) → take {A = ℕ} k [] ≡ []
+    nothing zero = refl
+    nothing (suc k) = refl
+take_both (suc m) n (x ∷ xs) = let e : suc (m + n) ≡ suc m + n = omega arith in ap (λ (ys : List ℕ). x ∷ ys) (take_both m n xs) ∙ ap (λ (k : ℕ). take k (x ∷ xs)) e
+
+pub range_both : (xs : List ℕ) (a b c : ℕ) → a ≤ b → b ≤ c → slice_range xs a b ++ slice_range xs b c ≡ slice_range xs a c
+range_both xs a b c low high =
+    let width : (b - a) + (c - b) ≡ c - a = omega (arith, low, high) in
+    let place : a + (b - a) ≡ b = omega (arith, low) in
+    let behind : drop b xs ≡ drop (b - a) (drop a xs) = sym (drop-drop (b - a) a xs ∙ ap (λ (n : ℕ). drop n xs) place) in
+    ap (λ (ys : List ℕ). take (b - a) (drop a xs) ++ take (c - b) ys) behind ∙ take_both (b - a) (c - b) (drop a xs) ∙ ap (λ (n : ℕ). take n (drop a xs)) width
+
+-- two puts side by side
+pub puts_both : (xs first second : List ℕ) (at next : ℕ) → next ≡ at + length first → next ≤ length xs → put_at (put_at xs next second) at first ≡ put_at xs at (first ++ second)
+unfolding put_at
+puts_both xs first second at next is room =
+    let size : at + length (first ++ second) ≡ next + length second = let n = length-append first second in omega (arith, n, is) in
+    let behind : drop (at + length first) (put_at xs next second) ≡ second ++ drop (next + length second) xs = ap (λ (n : ℕ). drop n (put_at xs next second)) (sym is) ∙ drop-put_at xs second next room in
+    ap (λ (ys : List ℕ). ys ++ first ++ drop (at + length first) (put_at xs next second)) (take-put_at xs second next at (omega (arith, is)) room)
+    ∙ ap (λ (ys : List ℕ). take at xs ++ first ++ ys) behind
+    ∙ sym (append_assoc (take at xs ++ first) second (drop (next + length second) xs))
+    ∙ ap (λ (ys : List ℕ). ys ++ drop (next + length second) xs) (append_assoc (take at xs) first second)
+    ∙ ap (λ (n : ℕ). take at xs ++ (first ++ second) ++ drop n xs) (sym size)

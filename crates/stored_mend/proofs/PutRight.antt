@@ -6,7 +6,7 @@ use Rattle.db_model.specs.Database.{Database}
 use Rattle.stored.specs.Mended.{mended_base}
 use Rattle.stored_mend.specs.Filled.{FillsIn, IsFilled}
 use Rattle.stored_mend.specs.Mending.{IsPutRight, IsPutRightFor, MendsAsBefore, PutsRight}
-use Rattle.stored_mend.specs.Trees.{KeepsButTrees}
+use Rattle.stored_mend.specs.Trees.{KeepsButTrees, LosesTrees}
 use Rattle.stored_mend.proofs.FilledBase.{same_filled}
 use Rattle.stored_mend.proofs.TreesLost.{loses_any, loses_same}
 
@@ -20,6 +20,14 @@ put_right_same old now same = right_for_same (λ slot. ⊤) old now same
 -- whatever the reason is
 pub right_any : (P : ℕ → Type 0) (old now : Database) → IsPutRightFor P old now → IsPutRight old now
 right_any P old now r = record { filled = r.filled; fills = r.fills; loses = loses_any P r.filled now r.loses }
+
+-- rows are filled
+pub right_filled : (old now : Database) → IsFilled old now → IsPutRight old now
+right_filled old now f = record { filled = now; fills = f; loses = loses_same (λ slot. ⊤) now now refl }
+
+-- and then trees are lost
+pub right_trees : (a b : State) → FillsIn (λ slot. ⊤) a b → IsTrue a.tells → (now : Database) → LosesTrees (mended_base b.files) now → IsPutRight (mended_base a.files) now
+right_trees a b f told now l = record { filled = mended_base b.files; fills = f.base told; loses = l }
 
 pub right_same : (P : ℕ → Type 0) (a : State) → PutsRight P a a
 right_same P a = record { base = λ told. right_for_same P (mended_base a.files) (mended_base a.files) refl; draft = refl; tells = refl }

@@ -29,7 +29,7 @@ use Rattle.stored_mend.proofs.OneFile.{catalog_no_rows}
 
 -- ---- a catalog that breaks no rule
 
-form_size : (bytes : List ℕ) → has_form bytes ≡ true → IsCatalogSize (length bytes)
+pub form_size : (bytes : List ℕ) → has_form bytes ≡ true → IsCatalogSize (length bytes)
 form_size bytes e = by_tests (length bytes == 0) (length bytes == 1472) (length bytes == 1480) (bytes_eq (slice_range bytes 1472 1480) version_mark) refl refl refl e
   where
     by_tests : (a b c d : Bool) → (length bytes == 0) ≡ a → (length bytes == 1472) ≡ b → (length bytes == 1480) ≡ c → (a || b || (c && d)) ≡ true → IsCatalogSize (length bytes)
@@ -131,7 +131,7 @@ module _ (old new : State) (k : ℕ) (c : ChangesOne old new (rows_file k)) wher
   pub catalog_bytes_kept : catalog_bytes_in new.files ≡ catalog_bytes_in old.files
   catalog_bytes_kept = bytes_stay old new (rows_file k) catalog_file c (catalog_no_rows k)
 
-  stranger_kept : (id : ℕ) → is_stranger new.files id ≡ is_stranger old.files id
+  pub stranger_kept : (id : ℕ) → is_stranger new.files id ≡ is_stranger old.files id
   stranger_kept id = by_place (place old.files id) (place new.files id) refl refl (c.named id) (c.kind id)
     where
       by_place : (o n : Option File) → place old.files id ≡ o → place new.files id ≡ n → option_map (λ (f : File). f.name) n ≡ option_map (λ (f : File). f.name) o → (IsTrue (is_some o) → (unwrap_or n no_file).kind ≡ (unwrap_or o no_file).kind)

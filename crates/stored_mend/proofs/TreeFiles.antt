@@ -1,5 +1,5 @@
 -- Steps that change the file of a tree alone, or build it.
-use Rattle.std.proofs.Common.{◌≡◌, ◌≢◌, ◌⊎◌, inl, inr, Bool, ℕ, ℤ, ◌+◌, ◌-◌, ◌<◌, ◌≤◌, List, [], ◌∷◌, ◌++◌, length, Option, Some, None, IsTrue, true, false, refl, ap, sym, subst, ◌∙◌, arith}
+use Rattle.std.proofs.Common.{◌≡◌, ◌≢◌, ◌⊎◌, inl, inr, Bool, ℕ, ℤ, ◌+◌, ◌-◌, ◌≤◌, List, [], ◌∷◌, ◌++◌, length, Option, Some, None, IsTrue, true, false, refl, ap, sym, subst, ◌∙◌, arith}
 use Rattle.std.specs.Prelude.{Err, if◌then◌else◌, is_some, nat_lt, option_map, unwrap_or}
 use Rattle.std.proofs.Math.Logic.{⊎_elim}
 use Rattle.std.proofs.lemmas.Bool.{cases_eq}
@@ -27,7 +27,7 @@ use Rattle.stored_mend.proofs.Replaced.{name_of}
 -- ---- all files but that of a name
 
 -- a file that stands there was there before, or it is the one that changed, which doubles
-known_but : (old new : Table) (id : ℕ) (name : List ℕ) → OthersStay old new id → (file_at new id).name ≡ name → (file_at new id).kind ≡ Doubling
+pub known_but : (old new : Table) (id : ℕ) (name : List ℕ) → OthersStay old new id → (file_at new id).name ≡ name → (file_at new id).kind ≡ Doubling
     → (k : ℕ) (f : File) → place new k ≡ Some f → (place old k ≡ Some f) ⊎ IsDoublingOf name f
 known_but old new id name others is doubles k f there = ⊎_elim
     (λ (same : k ≡ id).

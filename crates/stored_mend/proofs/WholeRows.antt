@@ -34,7 +34,7 @@ use Rattle.stored_mend.proofs.FilledRows.{filled_are_rows, filled_rows, has_attr
 use Rattle.stored_mend.proofs.KeptBase.{bytes_stay, whole_rows_same, whole_size}
 use Rattle.stored_mend.proofs.OneFile.{same_rows_slot, tree_no_rows}
 use Rattle.stored_mend.proofs.RowsAtEnd.{all_whole, index_filled, last_read, long_whole, may_end, takes_at}
-use Rattle.stored_mend.proofs.SoundCatalog.{catalog_kept, index_read_at, rows_double, rules_kept, schema_read, slot_read, version_read, whole_is}
+use Rattle.stored_mend.proofs.SoundCatalog.{catalog_kept, index_read_at, rows_double, rules_kept, schema_read, slot_read, stranger_kept, version_read, whole_is}
 use Rattle.stored_mend.proofs.TakenRows.{filled_once, removed_read}
 
 -- the rows of a relation in the database that files mend to
@@ -111,6 +111,7 @@ module _ (old new : State) (k : ℕ) (schema : Schema) (half after : Half) (c : 
   next_stage : HasRowsBelow new.files (k + 1) after
   next_stage = record {
     stage = record {
+      known = λ id. stranger_kept old new k c id ∙ stage.known id;
       catalog = unbroken;
       rows = λ j s e. subst (λ (v : ℕ). HoldsRowsOr after v j s.attributes (bytes_named (rows_file j) new.files)) same_version (holds j s (same_relation j s e));
       keys = λ i index e. index_now i index (ap (λ (cat : Catalog). get_or cat.indexes i None) (sym (catalog_kept old new k c)) ∙ e);
@@ -123,6 +124,28 @@ module _ (old new : State) (k : ℕ) (schema : Schema) (half after : Half) (c : 
   }
 
 -- ---- what a repair makes of one relation
+
+-- the bytes of its file
+pub bytes_before : (old : State) (k file : ℕ) → IsFileOf old.files (rows_file k) file → bytes_named (rows_file k) old.files ≡ bytes_at old.files file
+bytes_before old k file at = ap bytes_in_file (named_found old.files file (rows_file k) at.named at.only ∙ place_live old.files file (named_live old.files file (rows_file k) at.named))
+
+pub bytes_now : (old new : State) (k : ℕ) → ChangesOne old new (rows_file k) → (file : ℕ) → IsFileOf old.files (rows_file k) file → bytes_named (rows_file k) new.files ≡ bytes_at new.files file
+bytes_now old new k c file at =
+    let named : IsNamed new.files file (rows_file k) = c.named file ∙ at.named in
+    ap bytes_in_file (named_found new.files file (rows_file k) named (λ j h. at.only j (sym (c.named j) ∙ h)) ∙ place_live new.files file (named_live new.files file (rows_file k) named))
+
+-- where a part of a row stands at its end, a row was being added
+pub part_adding : (old : State) (k : ℕ) (schema : Schema) (half : Half) → relation old.files k ≡ Some schema → IsCatalogSound old.files half
+    → (file : ℕ) → IsFileOf old.files (rows_file k) file → whole_length schema.attributes (bytes_at old.files file) < length (bytes_at old.files file)
+    → (half ≡ AddingRow k) × AreRows (mended_catalog old.files).version schema.attributes (whole_rows schema.attributes (bytes_at old.files file))
+part_adding old k schema half is stage file at part = by_rows (stage.rows k schema is)
+  where
+    by_rows : HoldsRowsOr half (mended_catalog old.files).version k schema.attributes (bytes_named (rows_file k) old.files)
+        → (half ≡ AddingRow k) × AreRows (mended_catalog old.files).version schema.attributes (whole_rows schema.attributes (bytes_at old.files file))
+    by_rows (inl are) =
+        let long = long_whole (mended_catalog old.files).version schema.attributes (bytes_at old.files file) (subst (AreRows (mended_catalog old.files).version schema.attributes) (bytes_before old k file at) are) in
+        absurd (omega (arith, long, part))
+    by_rows (inr p) = (p.0, subst (λ (b : List ℕ). AreRows (mended_catalog old.files).version schema.attributes (whole_rows schema.attributes b)) (bytes_before old k file at) p.1)
 
 -- less than a row stands behind the whole ones
 part_short : (attributes : List Attribute) (bytes : List ℕ) → whole_length attributes bytes < length bytes → attributes ≢ []
@@ -160,25 +183,16 @@ module _ (catalog : Catalog) (old new : State) (k : ℕ) (schema : Schema) (half
 
   module _ (file : ℕ) (at : IsFileOf old.files (rows_file k) file) where
     before : bytes_named (rows_file k) old.files ≡ bytes_at old.files file
-    before = ap bytes_in_file (named_found old.files file (rows_file k) at.named at.only ∙ place_live old.files file (named_live old.files file (rows_file k) at.named))
+    before = bytes_before old k file at
 
     now : bytes_named (rows_file k) new.files ≡ bytes_at new.files file
-    now =
-        let named : IsNamed new.files file (rows_file k) = c.named file ∙ at.named in
-        ap bytes_in_file (named_found new.files file (rows_file k) named (λ j h. at.only j (sym (c.named j) ∙ h)) ∙ place_live new.files file (named_live new.files file (rows_file k) named))
+    now = bytes_now old new k c file at
 
     module _ (part : whole_length schema.attributes (bytes_at old.files file) < length (bytes_at old.files file)) where
-      was_adding : HoldsRowsOr half (mended_catalog old.files).version k schema.attributes (bytes_named (rows_file k) old.files)
-          → (half ≡ AddingRow k) × AreRows (mended_catalog old.files).version schema.attributes (whole_rows schema.attributes (bytes_at old.files file))
-      was_adding (inl are) =
-          let long = long_whole (mended_catalog old.files).version schema.attributes (bytes_at old.files file) (subst (AreRows (mended_catalog old.files).version schema.attributes) before are) in
-          absurd (omega (arith, long, part))
-      was_adding (inr p) = (p.0, subst (λ (b : List ℕ). AreRows (mended_catalog old.files).version schema.attributes (whole_rows schema.attributes b)) before p.1)
-
       filled : IsFillable catalog k schema.attributes (file_at old.files file) → IsFilledUp schema.attributes (bytes_at old.files file) (bytes_at new.files file) → HasRowsBelow new.files (k + 1) (AddingKey k)
       filled f up =
           let attributes : List Attribute = schema.attributes in
-          let a = was_adding held in
+          let a = part_adding old k schema half is below.stage file at part in
           let row : Row = record { tuple = up.removed.tuple; live = false } in
           let old_rows : List Row = rows_of attributes (bytes_at old.files file) in
           let all : rows_of attributes (bytes_named (rows_file k) new.files) ≡ rows_of attributes (bytes_at old.files file) ++ row ∷ [] = ap (rows_of attributes) now ∙ filled_rows attributes (bytes_at old.files file) (bytes_at new.files file) up in
@@ -200,13 +214,13 @@ module _ (catalog : Catalog) (old new : State) (k : ℕ) (schema : Schema) (half
       cut : bytes_at new.files file ≡ whole_rows schema.attributes (bytes_at old.files file) → HasRowsBelow new.files (k + 1) Nothing
       cut e =
           let attributes : List Attribute = schema.attributes in
-          let a = was_adding held in
+          let a = part_adding old k schema half is below.stage file at part in
           let all : rows_of attributes (bytes_named (rows_file k) new.files) ≡ rows_of attributes (bytes_named (rows_file k) old.files) =
           ap (rows_of attributes) (now ∙ e) ∙ whole_rows_same attributes (bytes_at old.files file) ∙ ap (rows_of attributes) (sym before) in
           next_stage old new k schema half Nothing c fills is below a.0 (subst (AreRows (mended_catalog old.files).version attributes) (sym (now ∙ e)) a.1)
           (λ i index h on complete. inl (subst (λ (rs : List Row). IsIndexComplete index.kind (bytes_named (tree_file i) old.files) (keys index.attribute rs)) (sym all) complete))
 
-  mended_below : MendsRows catalog k schema.attributes old new → (after : Half) × HasRowsBelow new.files (k + 1) after
+  pub mended_below : MendsRows catalog k schema.attributes old new → (after : Half) × HasRowsBelow new.files (k + 1) after
   mended_below (inl none) =
       let empty : bytes_named (rows_file k) old.files ≡ [] = ap bytes_in_file (named_none old.files (rows_file k) none.0) in
       let long : whole_length schema.attributes [] ≡ 0 = ap (λ (n : ℕ). row_length schema.attributes * n) (zero-div (row_length schema.attributes)) ∙ mul-zero (row_length schema.attributes) in
@@ -215,7 +229,7 @@ module _ (catalog : Catalog) (old new : State) (k : ℕ) (schema : Schema) (half
   mended_below (inr (file, at, inr (part, inl f))) = (AddingKey k, filled file at part f.0 f.1)
   mended_below (inr (file, at, inr (part, inr (never, inl e)))) = (Nothing, cut file at part e)
   mended_below (inr (file, at, inr (part, inr (never, inr stuck)))) =
-      let a = was_adding file at part held in
+      let a = part_adding old k schema half is below.stage file at part in
       absurd (stuck.0 (may_end (mended_catalog old.files).version schema.attributes (file_at old.files file) a.1 (schema_read old.files below.stage.catalog k schema is).short (rows_double old.files below.stage.catalog k file at)))
 
 -- ---- a slot that has no relation, and all slots
@@ -278,3 +292,9 @@ unfolding MakesWhole
 makes_all catalog old new n all f told listed half stage =
     let r = f told listed half (record { stage = stage; rows = λ j s less e. absurd (omega (arith, less)) }) in
     (r.0, all_below new.files n r.0 all r.1)
+
+-- the first slots
+pub made_below : (catalog : Catalog) (old new : State) (n : ℕ) → MakesWhole catalog 0 n old new → IsTrue old.tells → catalog ≡ catalog_in old.files → (half : Half) → IsCatalogSound old.files half
+    → (after : Half) × HasRowsBelow new.files n after
+unfolding MakesWhole
+made_below catalog old new n f told listed half stage = f told listed half (record { stage = stage; rows = λ j s less e. absurd (omega (arith, less)) })

@@ -1,10 +1,14 @@
 pub mod Complete
+pub mod CutTrees
 pub mod Filled
+pub mod Interrupted
 pub mod Keys
 pub mod Listed
 pub mod Mending
 pub mod Report
+pub mod Reported
 pub mod Rows
+pub mod RowsCut
 pub mod Slots
 pub mod Stages
 pub mod Trees

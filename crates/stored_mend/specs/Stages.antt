@@ -1,7 +1,7 @@
 -- The files of a database while they are repaired, stage by stage.
-use Rattle.std.specs.Prelude.{◌≡◌, ℕ, get_or, Some, None}
+use Rattle.std.specs.Prelude.{◌≡◌, ℕ, false, get_or, Some, None}
 use Rattle.afl_base.specs.Files.{Table}
-use Rattle.catalog.specs.Rules.{first_broken}
+use Rattle.catalog.specs.Rules.{first_broken, is_stranger}
 use Rattle.db_model.specs.Catalog.{Index}
 use Rattle.db_model.specs.Step.{keys}
 use Rattle.db_model.specs.declared.schemas.Schema.{Schema}
@@ -14,6 +14,7 @@ use Rattle.tuple_file.specs.Tuples.{AreRows}
 
 -- the catalog and the files that it asks for keep the rules 14 to 18, and of rows and trees one thing at most is half done
 pub record IsCatalogSound (files : Table) (half : Half) : Type 0 where
+  pub known : (id : ℕ) → is_stranger files id ≡ false
   pub catalog : first_broken files ≡ None
   pub rows : (k : ℕ) (schema : Schema) → relation files k ≡ Some schema
       → HoldsRowsOr half (mended_catalog files).version k schema.attributes (bytes_named (rows_file k) files)

@@ -2,19 +2,25 @@
 
 #![tactic(auto)]
 
-ghost use Rattle.std.specs.Prelude.{◌≡◌, ◌≢◌, ◌≤◌, ◌<◌, ◌+◌, ◌-◌, ℕ, IfNone, IfSome, IsTrue, None, OnOk, Some, length, slice_index};
-ghost use Rattle.afl_base.specs.Files.{IsLive, Overwrites, file_at, size_at};
+ghost use Rattle.std.specs.Prelude.{◌≡◌, ◌≢◌, ◌≤◌, ◌<◌, ◌+◌, ◌-◌, ℕ, List, IfNone, IfSome, IsTrue, None, OnOk, Some, length, slice_get, slice_index};
+ghost use Rattle.afl_base.specs.Files.{IsLive, KeepsBytes, Overwrites, file_at, size_at};
+ghost use Rattle.afl_base.specs.CutFiles.{CutLeaves, OverwritesFront};
+ghost use Rattle.afl_base.specs.FileErrors.{OnSpace, WhereFailed};
 ghost use Rattle.afl_base.specs.Keeping.{ChangesOrLacks, OnlyReads};
 ghost use Rattle.afl_base.specs.declared.kind.Kind.TheVariants.{Fixed};
 ghost use Rattle.catalog.specs.Rules.{first_broken};
-ghost use Rattle.db_model.specs.Catalog.{relation_slot_bytes};
-ghost use Rattle.space_model.specs.FileNames.{catalog_file};
+ghost use Rattle.db_model.specs.declared.schemas.Attribute.{Attribute};
+ghost use Rattle.db_model.specs.Catalog.{Index, relation_slot_bytes};
+ghost use Rattle.space_model.specs.FileNames.{catalog_file, rows_file};
 ghost use Rattle.stored.specs.CutTables.{IsCutTable, IsHalfDone};
 ghost use Rattle.stored.specs.Mended.{has_time, is_time_domain, mended_base};
 ghost use Rattle.stored.specs.declared.half.Half.{Half};
 ghost use Rattle.stored_mend.specs.Complete.{LosesIndex};
+ghost use Rattle.stored_mend.specs.Interrupted.{CutMends, IsCutState};
 ghost use Rattle.stored_mend.specs.Listed.{HasWrittenCatalog, IsListedTo, IsMarkedHalf, IsMarkedSlot, IsTakenBack, KeepsKnown, LacksTree, indexes_below, relations_below};
-ghost use Rattle.stored_mend.specs.Mending.{HasInSlot, IsWholeCatalog, MendsAsBefore, WantsMark};
+ghost use Rattle.stored_mend.specs.Mending.{HasInSlot, IsStrangeSlot, IsWholeCatalog, MendsAsBefore, WantsMark};
+ghost use Rattle.stored_mend.specs.Reported.{HasNames, IsOn, Reports, SparesSlots, bytes_seen, with_line};
+ghost use Rattle.stored_mend.specs.declared.report.Mended.TheVariants.{Index as IndexLine, Relation as RelationLine};
 ghost use Rattle.stored_mend.specs.Trees.{SparesButOne};
 
 use crate::listing::{SIZE_OF_VERSION_1, VERSION_MARK, relation_in, whole_catalog};
@@ -36,7 +42,17 @@ pub fn take_back_catalog<V: Files>(files: &mut V, report: &mut Report) -> Result
     ensures kept { OnOk result (MendsAsBefore (V.state files.old) (V.state files.new)) }
     ensures listed { IsCutTable (V.state files.old).files
         → OnOk result (IsTakenBack (V.state files.new).files) }
+    ensures cut { IsTrue (V.state files.old).tells
+        → IsCutTable (V.state files.old).files
+        → CutMends V.cuts V.mends V.state files.new (WhereFailed result)
+        (λ db. db ≡ mended_base (V.state files.old).files) }
+    ensures space { IsTrue (V.state files.old).tells
+        → IsCutTable (V.state files.old).files
+        → OnSpace result (λ _. IsCutState (V.state files.new)
+        (λ db. db ≡ mended_base (V.state files.old).files)) }
     ensures frame { ChangesOrLacks V.state V.lent V.reads V.faults V.lacks files.old files.new result }
+    ensures reported { IsTrue (V.state files.old).tells → OnOk result
+        (Reports 1 (V.state files.old) (V.state files.new) report.old.mended report.new.mended) }
 {
     let Some(cat) = files.find(catalog_file()) else {
         return Ok(());
@@ -77,7 +93,17 @@ pub fn complete_mark<V: Files>(files: &mut V, report: &mut Report) -> Result<(),
     ensures kept { OnOk result (MendsAsBefore (V.state files.old) (V.state files.new)) }
     ensures listed { IsTrue (V.state files.old).tells → IsTakenBack (V.state files.old).files
         → OnOk result (IsListedTo (relations_below 0) (V.state files.new).files) }
+    ensures cut { IsTrue (V.state files.old).tells
+        → IsTakenBack (V.state files.old).files
+        → CutMends V.cuts V.mends V.state files.new (WhereFailed result)
+        (λ db. db ≡ mended_base (V.state files.old).files) }
+    ensures space { IsTrue (V.state files.old).tells
+        → IsTakenBack (V.state files.old).files
+        → OnSpace result (λ _. IsCutState (V.state files.new)
+        (λ db. db ≡ mended_base (V.state files.old).files)) }
     ensures frame { ChangesOrLacks V.state V.lent V.reads V.faults V.lacks files.old files.new result }
+    ensures reported { IsTrue (V.state files.old).tells → OnOk result
+        (Reports 1 (V.state files.old) (V.state files.new) report.old.mended report.new.mended) }
 {
     let Some(cat) = written_catalog(files) else {
         return Ok(());
@@ -104,7 +130,19 @@ fn write_mark<V: Files>(files: &mut V, cat: FileId, report: &mut Report) -> Resu
     ensures marked { IsTrue (V.state files.old).tells → IsWholeCatalog (V.state files.old).files cat
         → WantsMark (V.state files.old) → (half : Half) → IsHalfDone (V.state files.old).files half
         → OnOk result (IsMarkedHalf (V.state files.new).files half) }
+    ensures cut { IsTrue (V.state files.old).tells
+        → IsWholeCatalog (V.state files.old).files cat → WantsMark (V.state files.old)
+        → IsCutTable (V.state files.old).files
+        → CutMends V.cuts V.mends V.state files.new (WhereFailed result)
+        (λ db. db ≡ mended_base (V.state files.old).files) }
+    ensures space { IsTrue (V.state files.old).tells
+        → IsWholeCatalog (V.state files.old).files cat → WantsMark (V.state files.old)
+        → IsCutTable (V.state files.old).files
+        → OnSpace result (λ _. IsCutState (V.state files.new)
+        (λ db. db ≡ mended_base (V.state files.old).files)) }
     ensures frame { ChangesOrLacks V.state V.lent V.reads V.faults V.lacks files.old files.new result }
+    ensures reported { IsTrue (V.state files.old).tells → IsWholeCatalog (V.state files.old).files cat
+        → OnOk result (Reports 1 (V.state files.old) (V.state files.new) report.old.mended report.new.mended) }
 {
     let written = (files.size(cat) - SIZE_OF_VERSION_1) as usize;
     if written == 8 {
@@ -130,7 +168,17 @@ pub fn mend_relation<V: Files>(
     ensures listed { IsTrue (V.state files.old).tells
         → IsListedTo (relations_below slot) (V.state files.old).files
         → OnOk result (IsListedTo (relations_below (slot + 1)) (V.state files.new).files) }
+    ensures cut { IsTrue (V.state files.old).tells
+        → IsListedTo (relations_below slot) (V.state files.old).files
+        → CutMends V.cuts V.mends V.state files.new (WhereFailed result)
+        (λ db. db ≡ mended_base (V.state files.old).files) }
+    ensures space { IsTrue (V.state files.old).tells
+        → IsListedTo (relations_below slot) (V.state files.old).files
+        → OnSpace result (λ _. IsCutState (V.state files.new)
+        (λ db. db ≡ mended_base (V.state files.old).files)) }
     ensures frame { ChangesOrLacks V.state V.lent V.reads V.faults V.lacks files.old files.new result }
+    ensures reported { IsTrue (V.state files.old).tells → OnOk result
+        (Reports 2 (V.state files.old) (V.state files.new) report.old.mended report.new.mended) }
 {
     let Some(cat) = written_catalog(files) else {
         return Ok(());
@@ -169,7 +217,22 @@ fn empty_slot<V: Files>(
         → HasInSlot (V.state files.old) slot None
         → IsListedTo (relations_below slot) (V.state files.old).files
         → OnOk result (IsListedTo (relations_below (slot + 1)) (V.state files.new).files) }
+    ensures cut { IsTrue (V.state files.old).tells
+        → IsWholeCatalog (V.state files.old).files cat
+        → HasInSlot (V.state files.old) slot None
+        → IsListedTo (relations_below slot) (V.state files.old).files
+        → CutMends V.cuts V.mends V.state files.new (WhereFailed result)
+        (λ db. db ≡ mended_base (V.state files.old).files) }
+    ensures space { IsTrue (V.state files.old).tells
+        → IsWholeCatalog (V.state files.old).files cat
+        → HasInSlot (V.state files.old) slot None
+        → IsListedTo (relations_below slot) (V.state files.old).files
+        → OnSpace result (λ _. IsCutState (V.state files.new)
+        (λ db. db ≡ mended_base (V.state files.old).files)) }
     ensures frame { ChangesOrLacks V.state V.lent V.reads V.faults V.lacks files.old files.new result }
+    ensures reported { IsTrue (V.state files.old).tells → IsWholeCatalog (V.state files.old).files cat
+        → HasInSlot (V.state files.old) slot None
+        → OnOk result (Reports 1 (V.state files.old) (V.state files.new) report.old.mended report.new.mended) }
 {
     let mut bytes = [0; 176];
     files.read(cat, 176 * u32::from(slot), &mut bytes)?;
@@ -192,11 +255,19 @@ fn unused_relation() -> [u8; 176]
 }
 
 // Reports a relation whose slot is emptied, unless its rows are still to be removed.
-fn report_removed<V: Files>(files: &V, slot: u16, report: &mut Report) {
-    if let Some(id) = RelationId::new(slot) {
-        if files.find(rows_file(id)).is_none() {
-            report.add(Mended::Relation(id));
-        }
+fn report_removed<V: Files>(files: &V, slot: u16, report: &mut Report)
+    requires slot { slot < 8 }
+    ensures told { bytes_seen (rows_file slot) (V.state files.now).files ≡ None
+        → report.new.mended ≡ with_line report.old.mended (RelationLine slot) }
+    ensures still { bytes_seen (rows_file slot) (V.state files.now).files ≢ None
+        → report.new.mended ≡ report.old.mended }
+{
+    let Some(id) = RelationId::new(slot) else {
+        return;
+    };
+    match files.find(rows_file(id)) {
+        Some(_) => {}
+        None => report.add(Mended::Relation(id)),
     }
 }
 
@@ -222,7 +293,22 @@ fn mend_schema<V: Files>(
         → HasInSlot (V.state files.old) slot (Some schema.now)
         → IsListedTo (relations_below slot) (V.state files.old).files
         → OnOk result (IsListedTo (relations_below (slot + 1)) (V.state files.new).files) }
+    ensures cut { IsTrue (V.state files.old).tells
+        → IsWholeCatalog (V.state files.old).files cat
+        → HasInSlot (V.state files.old) slot (Some schema.now)
+        → IsListedTo (relations_below slot) (V.state files.old).files
+        → CutMends V.cuts V.mends V.state files.new (WhereFailed result)
+        (λ db. db ≡ mended_base (V.state files.old).files) }
+    ensures space { IsTrue (V.state files.old).tells
+        → IsWholeCatalog (V.state files.old).files cat
+        → HasInSlot (V.state files.old) slot (Some schema.now)
+        → IsListedTo (relations_below slot) (V.state files.old).files
+        → OnSpace result (λ _. IsCutState (V.state files.new)
+        (λ db. db ≡ mended_base (V.state files.old).files)) }
     ensures frame { ChangesOrLacks V.state V.lent V.reads V.faults V.lacks files.old files.new result }
+    ensures reported { IsTrue (V.state files.old).tells → IsWholeCatalog (V.state files.old).files cat
+        → HasInSlot (V.state files.old) slot (Some schema.now)
+        → OnOk result (Reports 2 (V.state files.old) (V.state files.new) report.old.mended report.new.mended) }
 {
     mark_time(files, cat, schema, report)?;
     take_back_attribute(files, slot, schema, report)
@@ -248,7 +334,21 @@ fn mark_time<V: Files>(
         → (slot : ℕ) → slot < 8 → HasInSlot (V.state files.old) slot (Some schema.now)
         → IsListedTo (relations_below slot) (V.state files.old).files
         → OnOk result (IsMarkedSlot slot (V.state files.new).files) }
+    ensures cut { IsTrue (V.state files.old).tells
+        → IsWholeCatalog (V.state files.old).files cat
+        → (IsTrue (has_time (Some schema.now)) → WantsMark (V.state files.old))
+        → IsCutTable (V.state files.old).files
+        → CutMends V.cuts V.mends V.state files.new (WhereFailed result)
+        (λ db. db ≡ mended_base (V.state files.old).files) }
+    ensures space { IsTrue (V.state files.old).tells
+        → IsWholeCatalog (V.state files.old).files cat
+        → (IsTrue (has_time (Some schema.now)) → WantsMark (V.state files.old))
+        → IsCutTable (V.state files.old).files
+        → OnSpace result (λ _. IsCutState (V.state files.new)
+        (λ db. db ≡ mended_base (V.state files.old).files)) }
     ensures frame { ChangesOrLacks V.state V.lent V.reads V.faults V.lacks files.old files.new result }
+    ensures reported { IsTrue (V.state files.old).tells → IsWholeCatalog (V.state files.old).files cat
+        → OnOk result (Reports 1 (V.state files.old) (V.state files.new) report.old.mended report.new.mended) }
 {
     if files.size(cat) != SIZE_OF_VERSION_1 {
         return Ok(());
@@ -289,7 +389,19 @@ fn take_back_attribute<V: Files>(
         → HasInSlot (V.state files.old) slot (Some schema.now)
         → IsMarkedSlot slot (V.state files.old).files
         → OnOk result (IsListedTo (relations_below (slot + 1)) (V.state files.new).files) }
+    ensures cut { IsTrue (V.state files.old).tells
+        → HasInSlot (V.state files.old) slot (Some schema.now)
+        → IsMarkedSlot slot (V.state files.old).files
+        → CutMends V.cuts V.mends V.state files.new (WhereFailed result)
+        (λ db. db ≡ mended_base (V.state files.old).files) }
+    ensures space { IsTrue (V.state files.old).tells
+        → HasInSlot (V.state files.old) slot (Some schema.now)
+        → IsMarkedSlot slot (V.state files.old).files
+        → OnSpace result (λ _. IsCutState (V.state files.new)
+        (λ db. db ≡ mended_base (V.state files.old).files)) }
     ensures frame { ChangesOrLacks V.state V.lent V.reads V.faults V.lacks files.old files.new result }
+    ensures reported { IsTrue (V.state files.old).tells → HasInSlot (V.state files.old) slot (Some schema.now)
+        → OnOk result (Reports 1 (V.state files.old) (V.state files.new) report.old.mended report.new.mended) }
 {
     let Some(cat) = written_catalog(files) else {
         return Ok(());
@@ -322,7 +434,19 @@ pub fn mend_index<V: Files>(files: &mut V, slot: u16, report: &mut Report) -> Re
         → OnOk result (IsListedTo (indexes_below (slot + 1)) (V.state files.new).files) }
     ensures loses { IsTrue (V.state files.old).tells → LacksTree (V.state files.old).files slot
         → OnOk result (LosesIndex (V.state files.old).files (V.state files.new).files slot) }
+    ensures cut { IsTrue (V.state files.old).tells
+        → IsCutTable (V.state files.old).files
+        → CutMends V.cuts V.mends V.state files.new (WhereFailed result)
+        (λ db. db ≡ mended_base (V.state files.old).files) }
+    ensures space { IsTrue (V.state files.old).tells
+        → IsCutTable (V.state files.old).files
+        → OnSpace result (λ _. IsCutState (V.state files.new)
+        (λ db. db ≡ mended_base (V.state files.old).files)) }
     ensures frame { ChangesOrLacks V.state V.lent V.reads V.faults V.lacks files.old files.new result }
+    ensures reported { IsTrue (V.state files.old).tells → HasNames (V.state files.old).files slot
+        → OnOk result (Reports 1 (V.state files.old) (V.state files.new) report.old.mended report.new.mended) }
+    ensures slots { IsTrue (V.state files.old).tells
+        → OnOk result (SparesSlots (V.state files.old).files (V.state files.new).files slot) }
 {
     let Some(cat) = written_catalog(files) else {
         return Ok(());
@@ -356,19 +480,35 @@ fn report_index<V: Files>(
     requires live { IsLive (V.state files.old).files cat }
     requires size { 1472 ≤ size_at (V.state files.old).files cat }
     ensures frame { OnlyReads V.state V.lent V.reads V.faults files.old files.new result }
+    ensures told { IsTrue (V.state files.old).tells → IsWholeCatalog (V.state files.old).files cat
+        → (IsStrangeSlot (V.state files.old).files relation → ⊥) → (index : Index) (name of : List ℕ)
+        → index.relation ≡ relation → index.attribute ≡ attribute → IsOn (V.state files.old).files index name of
+        → OnOk result (report.new.mended ≡ with_line report.old.mended (IndexLine name of)) }
 {
     if relation >= 8 {
         return Ok(());
     }
-    if let Some(Some(schema)) = relation_in(files, cat, u16::from(relation))? {
-        if let Some(found) = schema.attributes.as_slice().get(attribute as usize) {
-            report.add(Mended::Index {
-                relation: schema.name,
-                attribute: found.name,
-            });
+    match relation_in(files, cat, u16::from(relation))? {
+        None => Ok(()),
+        Some(None) => Ok(()),
+        Some(Some(schema)) => {
+            report_index_of(&schema, attribute, report);
+            Ok(())
         }
     }
-    Ok(())
+}
+
+// Reports that the index on an attribute of a relation is taken back.
+fn report_index_of(schema: &Schema, attribute: u8, report: &mut Report)
+    ensures told { (place : Attribute) → slice_get schema.now.attributes attribute ≡ Some place
+        → report.new.mended ≡ with_line report.old.mended (IndexLine schema.now.name place.name) }
+{
+    if let Some(found) = schema.attributes.as_slice().get(attribute as usize) {
+        report.add(Mended::Index {
+            relation: schema.name,
+            attribute: found.name,
+        });
+    }
 }
 
 // Makes room, and puts these bytes into a slot.
@@ -384,6 +524,9 @@ fn overwrite<V: Files>(files: &mut V, cat: FileId, at: u32, bytes: &[u8]) -> Res
     requires last { at + length bytes.now ≡ 1472 → slice_index bytes.now (length bytes.now - 1) ≢ 0 }
     ensures idle { OnOk result ((V.state files.new).draft ≡ None) }
     ensures put { OnOk result (Overwrites (V.state files.old) (V.state files.new) cat at bytes.now) }
+    ensures space { OnSpace result (λ _. KeepsBytes (V.state files.old) (V.state files.new) cat) }
+    ensures cut { CutLeaves V.cuts V.mends V.state files.old files.new (WhereFailed result)
+        (λ after. OverwritesFront (V.state files.old) after cat at bytes.now) }
     ensures frame { ChangesOrLacks V.state V.lent V.reads V.faults V.lacks files.old files.new result }
 {
     files.prepare(cat, regions(at, bytes.len()), 0)?;

@@ -3,15 +3,21 @@
 #![tactic(auto)]
 
 ghost use Rattle.std.specs.Bool.{Decides};
-ghost use Rattle.std.specs.Prelude.{◌≡◌, ◌≢◌, ◌≤◌, ◌<◌, ◌+◌, ◌-◌, ◌⊎◌, ℕ, IfOk, IsSome, IsTrue, None, OnOk, length, replicate, slice_index, slice_range, take};
-ghost use Rattle.afl_base.specs.Files.{Becomes, Drafts, IsLive, IsNamed, WritesDraft, bytes_at, draft_in, file_at, size_at};
+ghost use Rattle.std.specs.Prelude.{◌≡◌, ◌≢◌, ◌≤◌, ◌<◌, ◌+◌, ◌-◌, ◌⊎◌, ℕ, IfOk, IsSome, IsTrue, None, OnErr, OnOk, Some, length, replicate, slice_index, slice_range, take};
+ghost use Rattle.afl_base.specs.Files.{Becomes, Drafts, IsLive, IsNamed, Keeps, WritesDraft, bytes_at, draft_in, file_at, size_at};
+ghost use Rattle.afl_base.specs.CutFiles.{CutKeeps, CutKeepsOrLeaves};
+ghost use Rattle.afl_base.specs.FileErrors.{OnSpace, WhereFailed};
 ghost use Rattle.afl_base.specs.Keeping.{Changes, ChangesOrLacks, OnlyReads};
 ghost use Rattle.afl_base.specs.declared.kind.Kind.TheVariants.{Doubling};
 ghost use Rattle.catalog.specs.Catalogs.{catalog_slots};
 ghost use Rattle.space_model.specs.FileNames.{rows_file};
 ghost use Rattle.stored.specs.Mended.{mended_catalog};
 ghost use Rattle.stored_mend.specs.Filled.{EndsInRow, FillsIn, HasRemovedMore};
+ghost use Rattle.stored_mend.specs.Mending.{HasInSlot};
+ghost use Rattle.stored_mend.specs.Reported.{Reports};
+ghost use Rattle.stored_mend.specs.Interrupted.{CutMends, IsCutState};
 ghost use Rattle.stored_mend.specs.Rows.{AreSameRows, ChangesOne, MayEndAt};
+ghost use Rattle.stored_mend.specs.RowsCut.{HasPartStill, IsFilledOne, MayMendRows, WhereRowsBelow};
 ghost use Rattle.stored_mend.specs.Whole.{MakesWhole, MendsRows};
 
 use crate::filling::fill_row;
@@ -38,7 +44,13 @@ pub fn mend_rows<V: Files>(
     ensures kept { OnOk result (FillsIn (λ k. k ≡ slot) (V.state files.old) (V.state files.new)) }
     ensures whole { let slots = catalog_slots catalog.now in OnOk result
         (MakesWhole slots slot (slot + 1) (V.state files.old) (V.state files.new)) }
+    ensures space { let slots = catalog_slots catalog.now in WhereRowsBelow slots slot (V.state files.old)
+        (OnSpace result (λ _. IsCutState (V.state files.new) (IsFilledOne slot (V.state files.old).files))) }
+    ensures cut { let slots = catalog_slots catalog.now in WhereRowsBelow slots slot (V.state files.old)
+        (CutMends V.cuts V.mends V.state files.new (WhereFailed result) (IsFilledOne slot (V.state files.old).files)) }
     ensures frame { ChangesOrLacks V.state V.lent V.reads V.faults V.lacks files.old files.new result }
+    ensures reported { IsTrue (V.state files.old).tells → OnOk result
+        (Reports 1 (V.state files.old) (V.state files.new) report.old.mended report.new.mended) }
 {
     match RelationId::new(slot) {
         Some(id) => {
@@ -62,7 +74,13 @@ fn mend_relation_rows<V: Files>(
     ensures kept { OnOk result (FillsIn (λ k. k ≡ id) (V.state files.old) (V.state files.new)) }
     ensures whole { let slots = catalog_slots catalog.now in OnOk result
         (MakesWhole slots id (id + 1) (V.state files.old) (V.state files.new)) }
+    ensures space { let slots = catalog_slots catalog.now in WhereRowsBelow slots id (V.state files.old)
+        (OnSpace result (λ _. IsCutState (V.state files.new) (IsFilledOne id (V.state files.old).files))) }
+    ensures cut { let slots = catalog_slots catalog.now in WhereRowsBelow slots id (V.state files.old)
+        (CutMends V.cuts V.mends V.state files.new (WhereFailed result) (IsFilledOne id (V.state files.old).files)) }
     ensures frame { ChangesOrLacks V.state V.lent V.reads V.faults V.lacks files.old files.new result }
+    ensures reported { IsTrue (V.state files.old).tells → OnOk result
+        (Reports 1 (V.state files.old) (V.state files.new) report.old.mended report.new.mended) }
 {
     match &catalog.relations[id.number() as usize] {
         Some(schema) => {
@@ -89,7 +107,15 @@ fn mend_rows_of<V: Files>(
     ensures mended { IsTrue (V.state files.old).tells → OnOk result
         (MendsRows (catalog_slots catalog.now) id schema.now.attributes (V.state files.old) (V.state files.new)) }
     ensures others { OnOk result (ChangesOne (V.state files.old) (V.state files.new) (rows_file id)) }
+    ensures space { IsTrue (V.state files.old).tells → OnSpace result
+        (λ _. HasPartStill id schema.now.attributes (V.state files.old) (V.state files.new)) }
+    ensures cut { let slots = catalog_slots catalog.now in
+        CutKeepsOrLeaves V.cuts V.mends V.state files.old files.new (WhereFailed result)
+        (λ after. MayMendRows slots id schema.now.attributes (V.state files.old) after) }
     ensures frame { ChangesOrLacks V.state V.lent V.reads V.faults V.lacks files.old files.new result }
+    ensures reported { IsTrue (V.state files.old).tells → id < 8
+        → HasInSlot (V.state files.old) id (Some schema.now)
+        → OnOk result (Reports 1 (V.state files.old) (V.state files.new) report.old.mended report.new.mended) }
 {
     let name = rows_file(id);
     let Some(file) = files.find(name) else {
@@ -144,7 +170,11 @@ fn cut_file<V: Files>(files: &mut V, file: FileId, name: Name, size: u32) -> Res
     requires most { size ≤ 4194304 }
     requires last { IsTrue (V.state files.old).tells → 1 ≤ size
         → slice_index (bytes_at (V.state files.old).files file) (size - 1) ≢ 0 }
-    ensures cut { OnOk result (Becomes (V.state files.old) (V.state files.new) file size
+    ensures front { OnOk result (Becomes (V.state files.old) (V.state files.new) file size
+        (take size (bytes_at (V.state files.old).files file))) }
+    ensures space { OnSpace result (λ _. Keeps (V.state files.old) (V.state files.new)) }
+    ensures cut { CutKeepsOrLeaves V.cuts V.mends V.state files.old files.new (WhereFailed result)
+        (λ after. Becomes (V.state files.old) after file size
         (take size (bytes_at (V.state files.old).files file))) }
     ensures frame { ChangesOrLacks V.state V.lent V.reads V.faults V.lacks files.old files.new result }
 {
@@ -165,6 +195,7 @@ fn copy_bytes<V: Files>(files: &mut V, file: FileId, size: u32) -> Result<(), Fa
         → (draft_in (V.state files.old)).bytes ≡ replicate size 0 }
     ensures copied { OnOk result (Drafts (V.state files.old) (V.state files.new)
         (draft_in (V.state files.old)).name size (take size (bytes_at (V.state files.old).files file))) }
+    ensures cut { CutKeeps V.cuts V.mends V.state files.old files.new (OnErr result) }
     ensures frame { Changes V.state V.lent V.reads V.faults files.old files.new result }
 {
     let mut at = 0;
@@ -187,6 +218,7 @@ fn copy_piece<V: Files>(files: &mut V, file: FileId, at: u32, count: usize) -> R
         → slice_range (draft_in (V.state files.old)).bytes at (at + count) ≡ replicate count 0 }
     ensures copied { OnOk result (WritesDraft (V.state files.old) (V.state files.new) at
         (slice_range (bytes_at (V.state files.old).files file) at (at + count))) }
+    ensures cut { CutKeeps V.cuts V.mends V.state files.old files.new (OnErr result) }
     ensures frame { Changes V.state V.lent V.reads V.faults files.old files.new result }
 {
     let mut bytes = [0; PIECE_SIZE as usize];

@@ -4,7 +4,9 @@
 
 ghost use Rattle.std.specs.Bool.{Decides};
 ghost use Rattle.std.specs.Prelude.{◌≡◌, ◌≢◌, ◌+◌, ◌-◌, ◌/◌, ◌≤◌, ◌<◌, ◌++◌, IfNone, IfOk, IfSome, IsFalse, IsTrue, None, OnOk, drop, length, replicate, slice_index, slice_range, take, true};
-ghost use Rattle.afl_base.specs.Files.{Appends, IsLive, bytes_at, file_at, size_at};
+ghost use Rattle.afl_base.specs.CutFiles.{AppendsFront, CutKeepsOrLeaves};
+ghost use Rattle.afl_base.specs.FileErrors.{OnSpace, WhereFailed};
+ghost use Rattle.afl_base.specs.Files.{Appends, IsLive, KeepsBytes, bytes_at, file_at, size_at};
 ghost use Rattle.afl_base.specs.Keeping.{ChangesOrLacks, OnlyReads};
 ghost use Rattle.afl_base.specs.declared.kind.Kind.TheVariants.{Doubling};
 ghost use Rattle.catalog.specs.Catalogs.{catalog_slots};
@@ -12,6 +14,7 @@ ghost use Rattle.db_model.specs.Row.{fields_length, row_length, slots_in_bytes};
 ghost use Rattle.db_model.specs.Step.{slots_limit};
 ghost use Rattle.stored_mend.specs.Filled.{FillsPart, FillsRow, IsRemovedRow, part_of_row, row_before};
 ghost use Rattle.stored_mend.specs.Rows.{whole_length, whole_rows};
+ghost use Rattle.stored_mend.specs.RowsCut.{FillsInPart, FillsPartly};
 ghost use Rattle.stored_mend.specs.Whole.{HasFilling, HasPart, IsFillable, IsTakenRow};
 ghost use Rattle.tuple_file.specs.Tuples.{AreRows};
 
@@ -45,6 +48,10 @@ pub fn fill_row<V: Files>(
         → AreRows catalog.now.version attributes.now (whole_rows attributes.now (bytes_at (V.state files.old).files file))
         → AreRows catalog.now.version attributes.now (bytes_at (V.state files.new).files file)) }
     ensures stays { IfOk result (λ filled. IsFalse filled → V.state files.new ≡ V.state files.old) }
+    ensures space { OnSpace result (λ _. KeepsBytes (V.state files.old) (V.state files.new) file) }
+    ensures cut { let slots = catalog_slots catalog.now in
+        CutKeepsOrLeaves V.cuts V.mends V.state files.old files.new (WhereFailed result)
+        (λ after. FillsInPart slots relation attributes.now (V.state files.old) after file) }
     ensures frame { ChangesOrLacks V.state V.lent V.reads V.faults V.lacks files.old files.new result }
 {
     match part_at_end(files, file, attributes, catalog.version) {
@@ -131,6 +138,10 @@ fn fill_part<V: Files>(
     ensures filled { IfOk result (λ filled. IsTrue filled
         → FillsRow (V.state files.old) (V.state files.new) file attributes.now) }
     ensures stays { IfOk result (λ filled. IsFalse filled → V.state files.new ≡ V.state files.old) }
+    ensures space { OnSpace result (λ _. KeepsBytes (V.state files.old) (V.state files.new) file) }
+    ensures cut { let slots = catalog_slots catalog.now in
+        CutKeepsOrLeaves V.cuts V.mends V.state files.old files.new (WhereFailed result)
+        (λ after. FillsPartly slots relation attributes.now (V.state files.old) after file) }
     ensures frame { ChangesOrLacks V.state V.lent V.reads V.faults V.lacks files.old files.new result }
 {
     let mut bytes = [0; ROW_SIZE];
@@ -269,6 +280,9 @@ fn append_rest<V: Files>(
     requires last { slice_index row.now (length row.now - 1) ≢ 0 }
     ensures appended { OnOk result
         (Appends (V.state files.old) (V.state files.new) file (drop have row.now)) }
+    ensures space { OnSpace result (λ _. KeepsBytes (V.state files.old) (V.state files.new) file) }
+    ensures cut { CutKeepsOrLeaves V.cuts V.mends V.state files.old files.new (WhereFailed result)
+        (λ after. AppendsFront (V.state files.old) after file (drop have row.now)) }
     ensures frame { ChangesOrLacks V.state V.lent V.reads V.faults V.lacks files.old files.new result }
 {
     files.prepare(file, 0, (row.len() - have) as u32)?;

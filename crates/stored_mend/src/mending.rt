@@ -2,17 +2,20 @@
 
 #![tactic(auto)]
 
-ghost use Rattle.std.specs.Prelude.{◌≡◌, ◌≢◌, IfNone, IfOk, IfSome, IsTrue, None, OnOk, length, ⊤};
+ghost use Rattle.std.specs.Prelude.{◌≡◌, ◌≢◌, [], IfNone, IfOk, IfSome, IsTrue, None, OnOk, length, ⊤};
+ghost use Rattle.afl_base.specs.FileErrors.{OnSpace, WhereFailed};
 ghost use Rattle.afl_base.specs.Keeping.{ChangesOrLacks, OnlyReads};
 ghost use Rattle.catalog.specs.Catalogs.{catalog_slots};
 ghost use Rattle.catalog.specs.Rules.{catalog_in, first_broken};
 ghost use Rattle.stored.specs.CutTables.{IsCutTable};
-ghost use Rattle.stored.specs.Mended.{mended_catalog};
+ghost use Rattle.stored.specs.Mended.{mended_base, mended_catalog};
 ghost use Rattle.stored.specs.Sound.{IsSoundTable};
 ghost use Rattle.stored.specs.declared.half.Half.{Half};
-ghost use Rattle.stored_mend.specs.Filled.{FillsIn};
+ghost use Rattle.stored_mend.specs.Filled.{FillsIn, IsFilled};
+ghost use Rattle.stored_mend.specs.Interrupted.{CutMends, IsCutState};
 ghost use Rattle.stored_mend.specs.Listed.{IsListedTo, indexes_below, trees_below};
-ghost use Rattle.stored_mend.specs.Mending.{MendsAsBefore, PutsRight, StandsForMended};
+ghost use Rattle.stored_mend.specs.Mending.{IsPutRight, MendsAsBefore, PutsRight, StandsForMended};
+ghost use Rattle.stored_mend.specs.Reported.{IsReported, Reports, ReportsInTurn};
 ghost use Rattle.stored_mend.specs.Stages.{HasWholeRows, IsCatalogSound};
 ghost use Rattle.stored_mend.specs.Trees.{LacksRoom};
 
@@ -24,9 +27,12 @@ use crate::trees::mend_all_trees;
 use afl_base::{Failed, FileError, Files};
 use catalog::{Catalog, load};
 
-/// Repairs files in which a cut left a part of a change, as `may_be_cut` tells, and reports what it did:
-/// they are sound then. It makes room before each change, and `Space` has the pages that were lacking. It
-/// can be begun anew if it was cut itself, or had no space.
+/// Repairs files in which a cut left a part of a change, as `may_be_cut` tells, and reports what it did, with a line
+/// for each thing that it changed and no other: they are sound then. It makes room before each change, and
+/// `Space` has the pages that were lacking.
+/// Where it is cut itself, or has no space, it leaves files that a cut can have left. They mend to the
+/// database that the files mended to before it, put right as far as the repair came, so it can be begun
+/// anew.
 pub fn mend_database<V: Files>(files: &mut V, report: &mut Report) -> Result<(), FileError>
     requires idle { (V.state files.old).draft ≡ None }
     ensures idle { OnOk result ((V.state files.new).draft ≡ None) }
@@ -36,7 +42,16 @@ pub fn mend_database<V: Files>(files: &mut V, report: &mut Report) -> Result<(),
         → OnOk result (IsSoundTable (V.state files.new).files) }
     ensures stands { IsTrue (V.state files.old).tells → OnOk result
         (StandsForMended (V.state files.old).files (V.state files.new).files) }
+    ensures cut { IsTrue (V.state files.old).tells → IsCutTable (V.state files.old).files
+        → CutMends V.cuts V.mends V.state files.new (WhereFailed result)
+        (λ db. IsPutRight (mended_base (V.state files.old).files) db) }
+    ensures space { IsTrue (V.state files.old).tells → IsCutTable (V.state files.old).files
+        → OnSpace result (λ _. IsCutState (V.state files.new)
+        (λ db. IsPutRight (mended_base (V.state files.old).files) db)) }
     ensures frame { ChangesOrLacks V.state V.lent V.reads V.faults V.lacks files.old files.new result }
+    ensures reported { IsTrue (V.state files.old).tells → IsCutTable (V.state files.old).files
+        → OnOk result (report.old.mended ≡ [] → IsReported
+        (V.state files.old).files (V.state files.new).files report.new.mended) }
 {
     mend_listing(files, report)?;
     mend_listed(files, report)?;
@@ -50,7 +65,17 @@ fn mend_listing<V: Files>(files: &mut V, report: &mut Report) -> Result<(), File
     ensures kept { OnOk result (MendsAsBefore (V.state files.old) (V.state files.new)) }
     ensures listed { IsTrue (V.state files.old).tells → IsCutTable (V.state files.old).files
         → OnOk result ((half : Half) × IsCatalogSound (V.state files.new).files half) }
+    ensures cut { IsTrue (V.state files.old).tells
+        → IsCutTable (V.state files.old).files
+        → CutMends V.cuts V.mends V.state files.new (WhereFailed result)
+        (λ db. db ≡ mended_base (V.state files.old).files) }
+    ensures space { IsTrue (V.state files.old).tells
+        → IsCutTable (V.state files.old).files
+        → OnSpace result (λ _. IsCutState (V.state files.new)
+        (λ db. db ≡ mended_base (V.state files.old).files)) }
     ensures frame { ChangesOrLacks V.state V.lent V.reads V.faults V.lacks files.old files.new result }
+    ensures reported { IsTrue (V.state files.old).tells → IsCutTable (V.state files.old).files
+        → OnOk result (Reports 42 (V.state files.old) (V.state files.new) report.old.mended report.new.mended) }
 {
     mend_catalog(files, report)?;
     remove_strays(files, report)?;
@@ -66,7 +91,18 @@ fn mend_listed<V: Files>(files: &mut V, report: &mut Report) -> Result<(), FileE
     ensures sound { IsTrue (V.state files.old).tells → (half : Half)
         → IsCatalogSound (V.state files.old).files half
         → OnOk result (IsSoundTable (V.state files.new).files) }
+    ensures cut { IsTrue (V.state files.old).tells → (half : Half)
+        → IsCatalogSound (V.state files.old).files half
+        → CutMends V.cuts V.mends V.state files.new (WhereFailed result)
+        (λ db. IsPutRight (mended_base (V.state files.old).files) db) }
+    ensures space { IsTrue (V.state files.old).tells → (half : Half)
+        → IsCatalogSound (V.state files.old).files half
+        → OnSpace result (λ _. IsCutState (V.state files.new)
+        (λ db. IsPutRight (mended_base (V.state files.old).files) db)) }
     ensures frame { ChangesOrLacks V.state V.lent V.reads V.faults V.lacks files.old files.new result }
+    ensures reported { IsTrue (V.state files.old).tells → (half : Half)
+        → IsCatalogSound (V.state files.old).files half → OnOk result
+        (ReportsInTurn 8 (V.state files.old) (V.state files.new) report.old.mended report.new.mended) }
 {
     let found = sound_catalog(files)?;
     match found {
@@ -103,7 +139,17 @@ fn mend_catalog<V: Files>(files: &mut V, report: &mut Report) -> Result<(), File
     ensures kept { OnOk result (MendsAsBefore (V.state files.old) (V.state files.new)) }
     ensures listed { IsTrue (V.state files.old).tells → IsCutTable (V.state files.old).files
         → OnOk result (IsListedTo (indexes_below 8) (V.state files.new).files) }
+    ensures cut { IsTrue (V.state files.old).tells
+        → IsCutTable (V.state files.old).files
+        → CutMends V.cuts V.mends V.state files.new (WhereFailed result)
+        (λ db. db ≡ mended_base (V.state files.old).files) }
+    ensures space { IsTrue (V.state files.old).tells
+        → IsCutTable (V.state files.old).files
+        → OnSpace result (λ _. IsCutState (V.state files.new)
+        (λ db. db ≡ mended_base (V.state files.old).files)) }
     ensures frame { ChangesOrLacks V.state V.lent V.reads V.faults V.lacks files.old files.new result }
+    ensures reported { IsTrue (V.state files.old).tells → IsCutTable (V.state files.old).files
+        → OnOk result (Reports 26 (V.state files.old) (V.state files.new) report.old.mended report.new.mended) }
 {
     take_back_catalog(files, report)?;
     complete_mark(files, report)?;
@@ -124,7 +170,17 @@ fn remove_strays<V: Files>(files: &mut V, report: &mut Report) -> Result<(), Fil
     ensures listed { IsTrue (V.state files.old).tells
         → IsListedTo (indexes_below 8) (V.state files.old).files
         → OnOk result (IsListedTo (trees_below 8) (V.state files.new).files) }
+    ensures cut { IsTrue (V.state files.old).tells
+        → IsListedTo (indexes_below 8) (V.state files.old).files
+        → CutMends V.cuts V.mends V.state files.new (WhereFailed result)
+        (λ db. db ≡ mended_base (V.state files.old).files) }
+    ensures space { IsTrue (V.state files.old).tells
+        → IsListedTo (indexes_below 8) (V.state files.old).files
+        → OnSpace result (λ _. IsCutState (V.state files.new)
+        (λ db. db ≡ mended_base (V.state files.old).files)) }
     ensures frame { ChangesOrLacks V.state V.lent V.reads V.faults V.lacks files.old files.new result }
+    ensures reported { IsTrue (V.state files.old).tells → OnOk result
+        (Reports 16 (V.state files.old) (V.state files.new) report.old.mended report.new.mended) }
 {
     for slot in 0..8u16 {
         remove_rows(files, slot, report)?;
@@ -152,7 +208,21 @@ fn mend_contents<V: Files>(
         → catalog_slots catalog.now ≡ catalog_in (V.state files.old).files
         → (half : Half) → IsCatalogSound (V.state files.old).files half
         → OnOk result (IsSoundTable (V.state files.new).files) }
+    ensures cut { IsTrue (V.state files.old).tells
+        → catalog_slots catalog.now ≡ catalog_in (V.state files.old).files
+        → (half : Half) → IsCatalogSound (V.state files.old).files half
+        → CutMends V.cuts V.mends V.state files.new (WhereFailed result)
+        (λ db. IsPutRight (mended_base (V.state files.old).files) db) }
+    ensures space { IsTrue (V.state files.old).tells
+        → catalog_slots catalog.now ≡ catalog_in (V.state files.old).files
+        → (half : Half) → IsCatalogSound (V.state files.old).files half
+        → OnSpace result (λ _. IsCutState (V.state files.new)
+        (λ db. IsPutRight (mended_base (V.state files.old).files) db)) }
     ensures frame { ChangesOrLacks V.state V.lent V.reads V.faults V.lacks files.old files.new result }
+    ensures reported { IsTrue (V.state files.old).tells
+        → catalog_slots catalog.now ≡ catalog_in (V.state files.old).files
+        → (half : Half) → IsCatalogSound (V.state files.old).files half → OnOk result
+        (ReportsInTurn 8 (V.state files.old) (V.state files.new) report.old.mended report.new.mended) }
 {
     mend_all_rows(files, catalog, report)?;
     mend_all_trees(files, catalog, report)?;
@@ -172,7 +242,19 @@ fn mend_all_rows<V: Files>(
     ensures whole { IsTrue (V.state files.old).tells → catalog_slots catalog.now ≡ catalog_in (V.state files.old).files
         → (half : Half) → IsCatalogSound (V.state files.old).files half
         → OnOk result ((after : Half) × HasWholeRows (V.state files.new).files after) }
+    ensures cut { IsTrue (V.state files.old).tells
+        → catalog_slots catalog.now ≡ catalog_in (V.state files.old).files
+        → (half : Half) → IsCatalogSound (V.state files.old).files half
+        → CutMends V.cuts V.mends V.state files.new (WhereFailed result)
+        (λ db. IsFilled (mended_base (V.state files.old).files) db) }
+    ensures space { IsTrue (V.state files.old).tells
+        → catalog_slots catalog.now ≡ catalog_in (V.state files.old).files
+        → (half : Half) → IsCatalogSound (V.state files.old).files half
+        → OnSpace result (λ _. IsCutState (V.state files.new)
+        (λ db. IsFilled (mended_base (V.state files.old).files) db)) }
     ensures frame { ChangesOrLacks V.state V.lent V.reads V.faults V.lacks files.old files.new result }
+    ensures reported { IsTrue (V.state files.old).tells → OnOk result
+        (Reports 8 (V.state files.old) (V.state files.new) report.old.mended report.new.mended) }
 {
     for slot in 0..8u16 {
         mend_rows(files, slot, catalog, report)?;

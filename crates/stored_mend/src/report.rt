@@ -2,10 +2,16 @@
 
 #![tactic(auto)]
 
-ghost use Rattle.std.specs.Prelude.{◌≡◌, ◌≤◌, ◌++◌, [], ◌∷◌, if◌then◌else◌, length, nat_lt};
+ghost use Rattle.std.specs.Prelude.{◌≡◌, ◌≤◌, []};
+ghost use Rattle.stored_mend.specs.Reported.{with_line};
 
 use afl_base::{IndexId, RelationId};
 use db_model::{Few, Ident};
+
+// The most lines: two of the catalog and its mark; one of each relation slot and one of the mark for
+// its TIME; one of each index slot, of the rows and of the tree that a slot does not ask for, and of the
+// rows of each relation; two of each tree, which may wait for room.
+const MOST_LINES: usize = 2 + 16 + 8 + 8 + 8 + 8 + 16;
 
 /// Something that was repaired.
 #[derive(Clone, Copy, Debug, PartialEq, Eq)]
@@ -37,7 +43,7 @@ impl Default for Mended {
 /// All that was repaired, in the order of the work.
 #[derive(Drop)]
 pub struct Report {
-    pub mended: Few<Mended, 40>,
+    pub mended: Few<Mended, MOST_LINES>,
 }
 
 impl Report {
@@ -48,12 +54,11 @@ impl Report {
         Report { mended: Few::new() }
     }
 
-    // One thing more. No database has as many as the list has places.
+    // One thing more. The list has a place for each that a repair may add.
     pub fn add(&mut self, mended: Mended)
-        ensures { self.new.mended ≡ (if nat_lt (length self.old.mended) 40
-            then self.old.mended ++ mended ∷ [] else self.old.mended) }
+        ensures { self.new.mended ≡ with_line self.old.mended mended }
     {
-        if self.mended.len() < 40 {
+        if self.mended.len() < MOST_LINES {
             self.mended.push(mended);
         }
     }

@@ -2,11 +2,13 @@
 
 #![tactic(auto)]
 
-ghost use Rattle.std.specs.Prelude.{◌≡◌, ◌<◌, ◌+◌, IfOk, IsTrue, None, OnOk, slice_index};
+ghost use Rattle.std.specs.Prelude.{◌≡◌, ◌<◌, ◌+◌, IfOk, IsTrue, None, OnErr, OnOk, slice_index};
 ghost use Rattle.afl_base.specs.Keeping.{Changes, OnlyReads};
-ghost use Rattle.stored.specs.Mended.{whole_catalog};
+ghost use Rattle.stored.specs.Mended.{mended_base, whole_catalog};
+ghost use Rattle.stored_mend.specs.Interrupted.{CutMends};
 ghost use Rattle.stored_mend.specs.Listed.{IsListedTo, rows_below, trees_below};
 ghost use Rattle.stored_mend.specs.Mending.{MendsAsBefore};
+ghost use Rattle.stored_mend.specs.Reported.{Reports};
 
 use crate::listing::whole_catalog;
 use crate::report::{Mended, Report};
@@ -22,7 +24,13 @@ pub fn remove_rows<V: Files>(files: &mut V, slot: u16, report: &mut Report) -> R
     ensures listed { IsTrue (V.state files.old).tells
         → IsListedTo (rows_below slot) (V.state files.old).files
         → OnOk result (IsListedTo (rows_below (slot + 1)) (V.state files.new).files) }
+    ensures cut { IsTrue (V.state files.old).tells
+        → IsListedTo (rows_below slot) (V.state files.old).files
+        → CutMends V.cuts V.mends V.state files.new (OnErr result)
+        (λ db. db ≡ mended_base (V.state files.old).files) }
     ensures frame { Changes V.state V.lent V.reads V.faults files.old files.new result }
+    ensures reported { IsTrue (V.state files.old).tells → OnOk result
+        (Reports 1 (V.state files.old) (V.state files.new) report.old.mended report.new.mended) }
 {
     let first = first_byte(files, 176 * u32::from(slot))?;
     let Some(id) = RelationId::new(slot) else {
@@ -48,7 +56,13 @@ pub fn remove_tree<V: Files>(files: &mut V, slot: u16, report: &mut Report) -> R
     ensures listed { IsTrue (V.state files.old).tells
         → IsListedTo (trees_below slot) (V.state files.old).files
         → OnOk result (IsListedTo (trees_below (slot + 1)) (V.state files.new).files) }
+    ensures cut { IsTrue (V.state files.old).tells
+        → IsListedTo (trees_below slot) (V.state files.old).files
+        → CutMends V.cuts V.mends V.state files.new (OnErr result)
+        (λ db. db ≡ mended_base (V.state files.old).files) }
     ensures frame { Changes V.state V.lent V.reads V.faults files.old files.new result }
+    ensures reported { IsTrue (V.state files.old).tells → OnOk result
+        (Reports 1 (V.state files.old) (V.state files.new) report.old.mended report.new.mended) }
 {
     let first = first_byte(files, 1_408 + 8 * u32::from(slot))?;
     let Some(id) = IndexId::new(slot) else {

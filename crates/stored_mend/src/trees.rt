@@ -2,8 +2,9 @@
 
 #![tactic(auto)]
 
-ghost use Rattle.std.specs.Prelude.{◌≡◌, ◌≢◌, ◌≤◌, ◌<◌, ◌++◌, ◌∷◌, [], ℕ, ℤ, List, IfNone, IfOk, IfSome, IsTrue, None, OnOk, length, true, false};
-ghost use Rattle.afl_base.specs.FileErrors.{OnSpace, UnlessFailed};
+ghost use Rattle.std.specs.Prelude.{◌≡◌, ◌≢◌, ◌≤◌, ◌<◌, ◌++◌, ◌∷◌, [], ℕ, ℤ, List, IfNone, IfOk, IfSome, IsTrue, None, OnOk, Some, get_or, length, slice_get, true, false, ◌+◌, OnErr};
+ghost use Rattle.afl_base.specs.FileErrors.{OnSpace, UnlessFailed, WhereFailed};
+ghost use Rattle.afl_base.specs.CutFiles.{CutKeepsOrLeaves, CutLeaves};
 ghost use Rattle.afl_base.specs.Files.{Becomes, IsLive, IsNamed, IsUnnamed, Keeps, KeepsBytes, Removes, bytes_at, file_at, used};
 ghost use Rattle.afl_base.specs.Keeping.{Changes, ChangesOrLacks};
 ghost use Rattle.afl_base.specs.declared.kind.Kind.TheVariants.{Doubling};
@@ -11,16 +12,24 @@ ghost use Rattle.afl_base.specs.KeyColumn.{key_of};
 ghost use Rattle.afl_base.specs.Keys.{first_keys};
 ghost use Rattle.catalog.specs.Catalogs.{catalog_slots};
 ghost use Rattle.catalog.specs.Rules.{catalog_in};
+ghost use Rattle.catalog.specs.declared.types.IndexEntry.{IndexEntry};
+ghost use Rattle.db_model.specs.declared.schemas.Attribute.{Attribute};
+ghost use Rattle.db_model.specs.declared.schemas.Schema.{Schema};
 ghost use Rattle.index_maxheap.specs.Rooms.{OnlyIndexChanges};
 ghost use Rattle.index_tree.specs.Trees.{IsTreeOf};
 ghost use Rattle.space_model.specs.FileNames.{rows_file, tree_file};
+ghost use Rattle.stored.specs.Mended.{mended_base};
 ghost use Rattle.stored.specs.Sound.{IsSoundTable};
 ghost use Rattle.stored.specs.declared.half.Half.{Half as AnyHalf};
-ghost use Rattle.stored_mend.specs.Complete.{AreKeysIn, CompletesFirst, CompletesSlot, HasSlot, IsComplete, IsSoundButTrees, LosesTree, SettlesSlot};
+ghost use Rattle.stored_mend.specs.Complete.{AreComplete, AreKeysIn, CompletesFirst, CompletesSlot, HasSlot, IsComplete, IsSoundButTrees, LosesTree, SettlesSlot};
+ghost use Rattle.stored_mend.specs.CutTrees.{AreTreesWhile, CompletesBut, IndexWaits, KeepsTrees, MayMakeRoom, MayMendTree, MayPutKey, MayRemoveTree, MayReplaceTree, StaysWithout};
+ghost use Rattle.stored_mend.specs.Interrupted.{CutMends, IsCutState};
 ghost use Rattle.stored_mend.specs.Keys.{AreKeys};
 ghost use Rattle.stored_mend.specs.Mending.{KeepsBase};
+ghost use Rattle.stored_mend.specs.Reported.{IsNoTree, ReportsTrees, bytes_seen, with_line};
+ghost use Rattle.stored_mend.specs.declared.report.Mended.TheVariants.{Tree as TreeLine};
 ghost use Rattle.stored_mend.specs.Stages.{HasWholeRows};
-ghost use Rattle.stored_mend.specs.Trees.{BecomesTree, BuildsTree, ChangesAtMost, HasTreeNow, KeepsButTrees, LacksRoom, SparesButTree};
+ghost use Rattle.stored_mend.specs.Trees.{BecomesTree, BuildsTree, ChangesAtMost, HasTreeNow, KeepsButTrees, LacksRoom, LosesTrees, SparesButTree};
 
 use crate::catalogs::mend_index;
 use crate::keyed::{Keyed, is_heap, keys_of};
@@ -31,7 +40,7 @@ use index_maxheap::{BUCKET_SIZE, HEAD_SIZE, buckets_for, build, insert, room, ve
 use index_tree::a_tree_ends_in_a_mark;
 
 /// Puts all trees right. A tree for which there is no room waits until all others are done, and then its
-/// file makes room for it.
+/// file makes room for it. What is left where this is cut off, or finds no room, can be repaired still.
 #[tactic(auto, using(crate::proofs::TreesLost::but_kept))]
 pub fn mend_all_trees<V: Files>(
     files: &mut V,
@@ -46,7 +55,20 @@ pub fn mend_all_trees<V: Files>(
     ensures sound { IsTrue (V.state files.old).tells → catalog_slots catalog.now ≡ catalog_in (V.state files.old).files
         → (half : AnyHalf) → HasWholeRows (V.state files.old).files half
         → OnOk result (IsSoundTable (V.state files.new).files) }
+    ensures cut { IsTrue (V.state files.old).tells
+        → catalog_slots catalog.now ≡ catalog_in (V.state files.old).files
+        → (half : AnyHalf) → HasWholeRows (V.state files.old).files half
+        → CutMends V.cuts V.mends V.state files.new (WhereFailed result)
+        (λ db. LosesTrees (mended_base (V.state files.old).files) db) }
+    ensures space { IsTrue (V.state files.old).tells
+        → catalog_slots catalog.now ≡ catalog_in (V.state files.old).files
+        → (half : AnyHalf) → HasWholeRows (V.state files.old).files half
+        → OnSpace result (λ need. IsCutState (V.state files.new)
+        (λ db. LosesTrees (mended_base (V.state files.old).files) db)) }
     ensures frame { ChangesOrLacks V.state V.lent V.reads V.faults V.lacks files.old files.new result }
+    ensures reported { IsTrue (V.state files.old).tells → catalog_slots catalog.now ≡ catalog_in (V.state files.old).files
+        → (half : AnyHalf) → HasWholeRows (V.state files.old).files half
+        → OnOk result (ReportsTrees 16 (V.state files.old) (V.state files.new) report.old.mended report.new.mended) }
 {
     let waiting = mend_trees(files, catalog, report)?;
     if waiting == 0 {
@@ -72,7 +94,17 @@ fn mend_trees<V: Files>(
         (CompletesFirst (V.state files.old) (V.state files.new) catalog.now 0) }
     ensures complete { IfOk result (λ waiting. waiting ≡ 0
         → CompletesFirst (V.state files.old) (V.state files.new) catalog.now 8) }
+    ensures alone { IfOk result (λ waiting. waiting ≡ 1 → (waits : ℕ)
+        × CompletesBut (V.state files.old) (V.state files.new) catalog.now 8 waits) }
+    ensures trees { OnOk result (KeepsTrees (V.state files.old) (V.state files.new) catalog.now) }
+    ensures cut { IsTrue (V.state files.old).tells → (half : AnyHalf)
+        → AreComplete (V.state files.old).files catalog.now 0
+        → AreTreesWhile (V.state files.old).files half
+        → CutMends V.cuts V.mends V.state files.new (OnErr result)
+        (λ db. db ≡ mended_base (V.state files.old).files) }
     ensures frame { Changes V.state V.lent V.reads V.faults files.old files.new result }
+    ensures reported { IsTrue (V.state files.old).tells → AreComplete (V.state files.old).files catalog.now 0
+        → OnOk result (ReportsTrees 8 (V.state files.old) (V.state files.new) report.old.mended report.new.mended) }
 {
     let mut waiting = 0;
     for slot in 0..8u16 {
@@ -111,7 +143,21 @@ fn make_room<V: Files>(
         (KeepsButTrees (LacksRoom V.state V.lacks) (V.state files.old) (V.state files.new)) }
     ensures settles { OnOk result
         (SettlesSlot (V.state files.old) (V.state files.new) catalog.now slot) }
+    ensures trees { IsTrue (V.state files.old).tells → (half : AnyHalf)
+        → MayMakeRoom (V.state files.old).files catalog.now half slot alone
+        → OnOk result (AreTreesWhile (V.state files.new).files half) }
+    ensures cut { IsTrue (V.state files.old).tells → (half : AnyHalf)
+        → MayMakeRoom (V.state files.old).files catalog.now half slot alone
+        → CutMends V.cuts V.mends V.state files.new (WhereFailed result)
+        (λ db. LosesTrees (mended_base (V.state files.old).files) db) }
+    ensures space { IsTrue (V.state files.old).tells → (half : AnyHalf)
+        → MayMakeRoom (V.state files.old).files catalog.now half slot alone
+        → OnSpace result (λ need. IsCutState (V.state files.new)
+        (λ db. LosesTrees (mended_base (V.state files.old).files) db)) }
     ensures frame { ChangesOrLacks V.state V.lent V.reads V.faults V.lacks files.old files.new result }
+    ensures reported { IsTrue (V.state files.old).tells → HasSlot (V.state files.old).files catalog.now slot
+        → IsSoundButTrees (V.state files.old).files
+        → OnOk result (ReportsTrees 1 (V.state files.old) (V.state files.new) report.old.mended report.new.mended) }
 {
     let waits = mend_tree(files, slot, catalog, report)?;
     match waits {
@@ -120,6 +166,7 @@ fn make_room<V: Files>(
                 return Err(FileError::Space { need });
             }
             replace_tree(files, slot, catalog, report)?;
+            let _first_is_live = files.live(FileId::default());
             Ok(())
         }
         None => Ok(()),
@@ -145,7 +192,21 @@ fn mend_tree<V: Files>(
     ensures complete { IfOk result (λ waits. IfNone waits
         (CompletesSlot (V.state files.old) (V.state files.new) catalog.now slot)) }
     ensures lacks { IfOk result (λ waits. IfSome waits (λ need. V.lacks files.new need)) }
+    ensures waits { IsTrue (V.state files.old).tells → HasSlot (V.state files.old).files catalog.now slot
+        → IsSoundButTrees (V.state files.old).files → IfOk result (λ waits. IfSome waits
+        (λ need. IndexWaits (V.state files.old).files (V.state files.new).files slot)) }
+    ensures cut { IsTrue (V.state files.old).tells → (half : AnyHalf)
+        → HasSlot (V.state files.old).files catalog.now slot
+        → AreTreesWhile (V.state files.old).files half
+        → CutMends V.cuts V.mends V.state files.new (OnErr result)
+        (λ db. db ≡ mended_base (V.state files.old).files) }
     ensures frame { Changes V.state V.lent V.reads V.faults files.old files.new result }
+    ensures quiet { IsTrue (V.state files.old).tells → HasSlot (V.state files.old).files catalog.now slot
+        → IsSoundButTrees (V.state files.old).files → IfOk result (λ waits. IfSome waits (λ need.
+        ReportsTrees 0 (V.state files.old) (V.state files.new) report.old.mended report.new.mended)) }
+    ensures reported { IsTrue (V.state files.old).tells → HasSlot (V.state files.old).files catalog.now slot
+        → IsSoundButTrees (V.state files.old).files
+        → OnOk result (ReportsTrees 1 (V.state files.old) (V.state files.new) report.old.mended report.new.mended) }
 {
     let Some(id) = IndexId::new(slot) else {
         return Ok(None);
@@ -197,6 +258,10 @@ fn keys_of_tree<V: Files>(files: &V, catalog: &Catalog, id: IndexId) -> Option<K
 fn report_slot(catalog: &Catalog, id: IndexId, report: &mut Report)
     requires relations { length catalog.now.relations ≡ 8 }
     requires indexes { length catalog.now.indexes ≡ 8 }
+    ensures told { (entry : IndexEntry) (schema : Schema) (place : Attribute)
+        → get_or catalog.now.indexes id None ≡ Some entry → get_or catalog.now.relations entry.relation None ≡ Some schema
+        → slice_get schema.attributes entry.attribute ≡ Some place
+        → report.new.mended ≡ with_line report.old.mended (TreeLine schema.name place.name) }
 {
     if let Some(entry) = catalog.indexes[id.number() as usize] {
         report_tree(catalog, &entry, report);
@@ -206,6 +271,10 @@ fn report_slot(catalog: &Catalog, id: IndexId, report: &mut Report)
 // Reports that the tree of an index is built anew.
 fn report_tree(catalog: &Catalog, entry: &IndexEntry, report: &mut Report)
     requires relations { length catalog.now.relations ≡ 8 }
+    ensures told { (schema : Schema) (place : Attribute)
+        → get_or catalog.now.relations entry.now.relation None ≡ Some schema
+        → slice_get schema.attributes entry.now.attribute ≡ Some place
+        → report.new.mended ≡ with_line report.old.mended (TreeLine schema.name place.name) }
 {
     if let Some(schema) = &catalog.relations[entry.relation.number() as usize] {
         if let Some(found) = schema.attributes.as_slice().get(entry.attribute as usize) {
@@ -228,7 +297,15 @@ fn mend_tree_of<V: Files>(files: &mut V, name: Name, keys: &Keyed) -> Result<boo
     ensures same { IfOk result (λ made. made ≡ false → V.state files.new ≡ V.state files.old) }
     ensures others { UnlessFailed result
         (ChangesAtMost (V.state files.old) (V.state files.new) name) }
+    ensures waits { IsTrue (V.state files.old).tells → OnSpace result (λ need.
+        StaysWithout (V.state files.old).files (V.state files.new).files name
+        (first_keys (key_of (V.state files.old) keys.now.column) keys.now.slots)) }
+    ensures cut { let ks = first_keys (key_of (V.state files.old) keys.now.column) keys.now.slots in
+        CutLeaves V.cuts V.mends V.state files.old files.new (WhereFailed result)
+        (λ after. MayMendTree (V.state files.old) after name ks) }
     ensures frame { ChangesOrLacks V.state V.lent V.reads V.faults V.lacks files.old files.new result }
+    ensures wrong { IsTrue (V.state files.old).tells → IfOk result (λ made. made ≡ true → IsNoTree
+        (V.state files.old).files name (first_keys (key_of (V.state files.old) keys.now.column) keys.now.slots)) }
 {
     let Some(tree) = files.find(name) else {
         return Ok(false);
@@ -263,6 +340,8 @@ fn add_last_key<V: Files>(files: &mut V, tree: FileId, keys: &Keyed) -> Result<b
         (first_keys (key_of (V.state files.old) keys.now.column) keys.now.slots)) }
     ensures kept { IfOk result (λ added. added ≡ false
         → KeepsBytes (V.state files.old) (V.state files.new) tree) }
+    ensures cut { CutLeaves V.cuts V.mends V.state files.old files.new (OnErr result)
+        (λ after. MayPutKey (V.state files.old) after tree keys.now.slots) }
     ensures frame { Changes V.state V.lent V.reads V.faults files.old files.new result }
 {
     if keys.slots == 0 {
@@ -293,6 +372,9 @@ fn put_key<V: Files>(files: &mut V, tree: FileId, key: &i32, slot: SlotNo) -> Re
         → OnlyIndexChanges (V.state files.old) (V.state files.new) tree) }
     ensures kept { IfOk result (λ added. added ≡ false
         → KeepsBytes (V.state files.old) (V.state files.new) tree) }
+    ensures cut { (keys : List ℤ) → IsTreeOf (bytes_at (V.state files.old).files tree) keys
+        → length keys ≡ slot → CutLeaves V.cuts V.mends V.state files.old files.new (OnErr result)
+        (λ after. MayPutKey (V.state files.old) after tree (slot + 1)) }
     ensures frame { Changes V.state V.lent V.reads V.faults files.old files.new result }
 {
     let room = room(files, tree, key)?;
@@ -321,6 +403,9 @@ fn build_tree<V: Files>(files: &mut V, name: Name, keys: &Keyed) -> Result<(), F
     ensures built { OnOk result (BuildsTree (V.state files.old) (V.state files.new) name
         (first_keys (key_of (V.state files.old) keys.now.column) keys.now.slots)) }
     ensures kept { OnSpace result (λ _. Keeps (V.state files.old) (V.state files.new)) }
+    ensures cut { let ks = first_keys (key_of (V.state files.old) keys.now.column) keys.now.slots in
+        CutKeepsOrLeaves V.cuts V.mends V.state files.old files.new (WhereFailed result)
+        (λ after. BuildsTree (V.state files.old) after name ks) }
     ensures frame { ChangesOrLacks V.state V.lent V.reads V.faults V.lacks files.old files.new result }
 {
     let buckets = buckets_for(files, keys.column, keys.slots)?;
@@ -348,7 +433,19 @@ fn replace_tree<V: Files>(
         (KeepsButTrees (LacksRoom V.state V.lacks) (V.state files.old) (V.state files.new)) }
     ensures settles { OnOk result
         (SettlesSlot (V.state files.old) (V.state files.new) catalog.now slot) }
+    ensures cut { IsTrue (V.state files.old).tells → (half : AnyHalf)
+        → MayRemoveTree (V.state files.old).files catalog.now half slot
+        → CutMends V.cuts V.mends V.state files.new (WhereFailed result)
+        (λ db. LosesTrees (mended_base (V.state files.old).files) db) }
+    ensures space { IsTrue (V.state files.old).tells → (half : AnyHalf)
+        → MayRemoveTree (V.state files.old).files catalog.now half slot
+        → OnSpace result (λ need. IsCutState (V.state files.new)
+        (λ db. LosesTrees (mended_base (V.state files.old).files) db)) }
     ensures frame { ChangesOrLacks V.state V.lent V.reads V.faults V.lacks files.old files.new result }
+    ensures reported { IsTrue (V.state files.old).tells → HasSlot (V.state files.old).files catalog.now slot
+        → IsSoundButTrees (V.state files.old).files
+        → (IsComplete (V.state files.old).files slot → ⊥)
+        → OnOk result (ReportsTrees 1 (V.state files.old) (V.state files.new) report.old.mended report.new.mended) }
 {
     match has_tree_again(files, slot, catalog, report) {
         Ok(true) => Ok(()),
@@ -378,7 +475,16 @@ fn has_tree_again<V: Files>(
         → SettlesSlot (V.state files.old) (V.state files.new) catalog.now slot) }
     ensures gone { IfOk result (λ stands. stands ≡ false
         → LosesTree (V.state files.old) (V.state files.new) catalog.now slot) }
+    ensures cut { IsTrue (V.state files.old).tells → (half : AnyHalf)
+        → MayRemoveTree (V.state files.old).files catalog.now half slot
+        → CutMends V.cuts V.mends V.state files.new (OnErr result)
+        (λ db. LosesTrees (mended_base (V.state files.old).files) db) }
     ensures frame { Changes V.state V.lent V.reads V.faults files.old files.new result }
+    ensures reported { IsTrue (V.state files.old).tells → HasSlot (V.state files.old).files catalog.now slot
+        → IsSoundButTrees (V.state files.old).files → (IsComplete (V.state files.old).files slot → ⊥)
+        → IfOk result (λ stands. stands ≡ true
+        → ReportsTrees 1 (V.state files.old) (V.state files.new) report.old.mended report.new.mended) }
+    ensures still { IfOk result (λ stands. stands ≡ false → report.new.mended ≡ report.old.mended) }
 {
     let Some(id) = IndexId::new(slot) else {
         return Ok(true);
@@ -418,6 +524,9 @@ fn replace_tree_of<V: Files>(
     ensures gone { OnSpace result (λ _. IsUnnamed (V.state files.new).files name) }
     ensures spares { OnSpace result (λ _.
         SparesButTree (V.state files.old) (V.state files.new) name) }
+    ensures cut { let ks = first_keys (key_of (V.state files.old) keys.now.column) keys.now.slots in
+        CutKeepsOrLeaves V.cuts V.mends V.state files.old files.new (WhereFailed result)
+        (λ after. MayReplaceTree (V.state files.old) after name ks) }
     ensures frame { ChangesOrLacks V.state V.lent V.reads V.faults V.lacks files.old files.new result }
 {
     remove_tree(files, tree, name)?;
@@ -435,6 +544,8 @@ fn remove_tree<V: Files>(files: &mut V, tree: FileId, name: Name) -> Result<(), 
     ensures spares { OnOk result (SparesButTree (V.state files.old) (V.state files.new) name) }
     ensures gone { OnOk result (IsUnnamed (V.state files.new).files name) }
     ensures place { OnOk result (used (V.state files.new).files < 32) }
+    ensures cut { CutKeepsOrLeaves V.cuts V.mends V.state files.old files.new (OnErr result)
+        (λ after. IsUnnamed after.files name × SparesButTree (V.state files.old) after name) }
     ensures frame { Changes V.state V.lent V.reads V.faults files.old files.new result }
 {
     files.live(tree);

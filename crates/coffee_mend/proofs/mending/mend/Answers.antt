@@ -1,8 +1,10 @@
 use Rattle.std.proofs.Common.{Some, length, arith}
 use Rattle.std.proofs.lemmas.Result.{on_ok_weaker}
-use Rattle.coffee_find.specs.Found.{HasRecord}
+use Rattle.coffee_find.specs.Found.{HasRecord, meant}
+use Rattle.coffee_cuts.specs.Cuts.{settled}
 use Rattle.coffee_mend.specs.Mended.{IsCrowded, IsTornAs}
-use Rattle.coffee_mend.proofs.Mends.{mended_crowded, mended_torn, mended_whole, space_more, torn_found}
+use Rattle.coffee_mend.proofs.Mends.{cut_settles, failed_more, mended_crowded, mended_cut, mended_torn, mended_whole, space_more, torn_found}
+use Rattle.coffee_mend.proofs.Settlings.{settling_mends}
 use Rattle.coffee_mend.proofs.mending.mend.Goals as goal
 
 pub returns-in-None-clause-mended : goal.returns-in-None-clause-mended
@@ -31,3 +33,20 @@ returns-in-Some-clause-space g c = λ told cut.
     space_more (λ need. IsTornAs mid new r.log.0 r.place need) (λ need. IsCrowded old new need) c.join_torn.result
     (λ need t. mended_crowded old mid new c.args.trouble.now r need cut c.in-Some.is (c.in-Ok.ensures.settled told) t)
     (c.join_torn.ensures.space told (torn_found old mid c.args.trouble.now r cut c.in-Some.is (c.in-Ok.ensures.settled told)))
+
+pub returns-in_default-clause-cut : goal.returns-in_default-clause-cut
+returns-in_default-clause-cut g c = λ t u cut.
+    settling_mends (g.F.Flash.image c.args.flash.now) (g.F.Flash.image c.settle.new.flash) (meant c.args.trouble.now.under_way) cut.found (cut_settles (settled (g.F.Flash.image c.args.flash.now) (meant c.args.trouble.now.under_way)) c.args.trouble.now.torn cut.settles)
+    (c.in_default.ensures.cut t u)
+
+pub returns-in-Some-clause-cut : goal.returns-in-Some-clause-cut
+returns-in-Some-clause-cut g c = λ t u cut.
+    let old = g.F.Flash.image c.args.flash.now in
+    let mid = g.F.Flash.image c.settle.new.flash in
+    let r = c.in-Some.torn in
+    let inside : HasRecord (length old) (Some r) = rw c.in-Some.is at c.requires.inside.torn in
+    let place = inside.1 in
+    let size = c.in-Ok.ensures.frame.size in
+    failed_more _ _ c.join_torn.result
+    (λ m. mended_cut old mid _ c.args.trouble.now r cut c.in-Some.is (c.in-Ok.ensures.settled t) (omega (arith, size, c.sectors.ensures.size)) (omega (arith, place, size)) m)
+    (c.join_torn.ensures.cut t u (torn_found old mid c.args.trouble.now r cut c.in-Some.is (c.in-Ok.ensures.settled t)))

@@ -5,9 +5,9 @@ use Rattle.run_laws.proofs.Survived.{restored}
 use Rattle.run_laws.proofs.laws.repairs_restore_what_cuts_left.Goals as goal
 
 pub returns-clause-scripts : goal.returns-clause-scripts
-returns-clause-scripts c = λ read is status old new sound sectors size run repair image held now repairs unfailed unsaid.
-    restored script_line (script_talk read) sectors old.world new.world c.cut_images_are_repaired.ensures (c.runs_survive_cuts.ensures.scripts read is status old new sound sectors size run) size repair image held now repairs unfailed unsaid
+returns-clause-scripts c = λ read is status old new sound sectors size run repair image held now repairs cut unsaid.
+    restored script_line (script_talk read) sectors old.world new.world c.cut_images_are_repaired.ensures (c.runs_survive_cuts.ensures.scripts read is status old new sound sectors size run) size repair image held now repairs cut unsaid
 
 pub returns-clause-served : goal.returns-clause-served
-returns-clause-served c = λ read is status old new sound sectors size run repair image held now repairs unfailed unsaid.
-    restored frame_line (serve_talk read) sectors old.world new.world c.cut_images_are_repaired.ensures (c.runs_survive_cuts.ensures.served read is status old new sound sectors size run) size repair image held now repairs unfailed unsaid
+returns-clause-served c = λ read is status old new sound sectors size run repair image held now repairs cut unsaid.
+    restored frame_line (serve_talk read) sectors old.world new.world c.cut_images_are_repaired.ensures (c.runs_survive_cuts.ensures.served read is status old new sound sectors size run) size repair image held now repairs cut unsaid

@@ -1,5 +1,3 @@
-use Rattle.std.proofs.Common.{◌≡◌, ◌∙◌, ap, sym, true, false}
-use Rattle.catalog.proofs.Named.{named_found, named_none}
 use Rattle.run_repair.proofs.Settled.{is_named_there, is_unnamed_there}
 use Rattle.run_repair.proofs.surveying.survey.Goals as goal
 

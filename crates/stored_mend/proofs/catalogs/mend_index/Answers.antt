@@ -14,6 +14,14 @@ use Rattle.stored_mend.proofs.ListedSlots.{keeps_becomes}
 use Rattle.stored_mend.proofs.ListedSteps.{listed_unwritten}
 use Rattle.stored_mend.proofs.IndexGone.{lacking_read, lacking_written, spares_catalog, tree_code, unbroken_without}
 use Rattle.stored_mend.proofs.IndexLost.{index_lost}
+use Rattle.stored_mend.proofs.ReportCatalog.{blank_spares, index_reported, spares_unchanged}
+use Rattle.stored_mend.proofs.ReportOnce.{reports_nothing}
+use Rattle.afl_base.specs.CutFiles.{OverwritesFront}
+use Rattle.db_model.specs.Database.{Database}
+use Rattle.stored.specs.Mended.{mended_base}
+use Rattle.stored_mend.specs.Interrupted.{IsCutState}
+use Rattle.stored_mend.proofs.CutCalls.{failed_handed, left_after, room_left, space_handed}
+use Rattle.stored_mend.proofs.CutIndexes.{index_left}
 use Rattle.stored_mend.proofs.catalogs.mend_index.Goals as goal
 
 pub returns-in_default-clause-sound : goal.returns-in_default-clause-sound
@@ -134,3 +142,73 @@ returns-clause-loses g c = λ told lacks.
     (subst (λ (n : ℕ). Overwrites old new c.in-Some.cat (1408 + 8 * n) (index_slot_bytes None)) slot
     (rw (c.in_ok-report_index.ensures.frame.same, c.in_ok-read.ensures.frame.same) at c.in_ok-overwrite.ensures.put))
     told
+
+-- what is left where the call failed
+
+pub returns-in_err-overwrite-clause-cut : goal.returns-in_err-overwrite-clause-cut
+returns-in_err-overwrite-clause-cut g c = λ told cut cuts failed.
+    let old = g.V.Files.state c.args.files.now in
+    let bytes = bytes_at old.files c.in-Some.cat in
+    let slot : c.from.result ≡ c.args.slot = omega (arith, c.from.ensures) in
+    let two : slice_index_or c.read.new.into 0 0 ≡ 2 = omega (arith, c.if-bytes-ne2.false) in
+    let left = rw (c.in_ok-report_index.ensures.frame.same, c.in_ok-read.ensures.frame.same) at c.overwrite.ensures.cut in
+    let tree : is_tree (index_at bytes c.args.slot) ≡ true =
+    subst (λ (n : ℕ). is_tree (index_at bytes n) ≡ true) slot (tree_at bytes c.from.result (ap (λ (xs : List ℕ). slice_index xs 0) (sym (c.in_ok-read.ensures.bytes told)) ∙ two)) in
+    let none = subst (λ (k : ℕ). IsUnnamed old.files (tree_file k)) (slot_is c.args.slot c.in-Some-new.id c.in-Some-new.ensures) (rw (c.tree_file.ensures, c.in_ok-read.ensures.frame.same) at c.in-None.ensures.none) in
+    left_after
+    (left cuts told (failed_handed c.overwrite.result c.from_residual-in_err-overwrite.result c.in_err-overwrite.field-0.0 c.in_err-overwrite.was c.from_residual-in_err-overwrite.ensures.1 failed))
+    (λ (after : State) w.
+    index_left old after c.in-Some.cat c.args.slot c.requires.slot told c.in-Some.ensures.found tree none cut
+    (subst (λ (n : ℕ). OverwritesFront old after c.in-Some.cat (1408 + 8 * n) (index_slot_bytes None)) slot w))
+
+pub returns-in_err-overwrite-clause-space : goal.returns-in_err-overwrite-clause-space
+returns-in_err-overwrite-clause-space g c = λ told cut.
+    let old = g.V.Files.state c.args.files.now in
+    let new = g.V.Files.state c.overwrite.new.files in
+    let kept = rw (c.in_ok-report_index.ensures.frame.same, c.in_ok-read.ensures.frame.same) at c.overwrite.ensures.space in
+    space_handed c.overwrite.result c.from_residual-in_err-overwrite.result c.in_err-overwrite.field-0.0 _ (IsCutState new (λ (db : Database). db ≡ mended_base old.files)) c.in_err-overwrite.was c.from_residual-in_err-overwrite.ensures.1
+    (λ k. room_left old new c.in-Some.cat c.in-Some.ensures.live told k (λ (db : Database). db ≡ mended_base old.files) c.requires.idle cut refl)
+    kept
+
+-- what is told
+
+pub returns-in_default-clause-reported : goal.returns-in_default-clause-reported
+returns-in_default-clause-reported g c = λ told names. reports_nothing 1 _ _ _ _ refl refl
+
+pub returns-then-bytes-ne2-clause-reported : goal.returns-then-bytes-ne2-clause-reported
+returns-then-bytes-ne2-clause-reported g c = λ told names. reports_nothing 1 _ _ _ _ c.in_ok-read.ensures.frame.same refl
+
+pub returns-in-Some-find-clause-reported : goal.returns-in-Some-find-clause-reported
+returns-in-Some-find-clause-reported g c = λ told names. reports_nothing 1 _ _ _ _ c.in_ok-read.ensures.frame.same refl
+
+pub returns-clause-reported : goal.returns-clause-reported
+returns-clause-reported g c = λ told names.
+    let old = g.V.Files.state c.args.files.now in
+    let new = g.V.Files.state c.overwrite.new.files in
+    let slot : c.from.result ≡ c.args.slot = omega (arith, c.from.ensures) in
+    let two : slice_index_or c.read.new.into 0 0 ≡ 2 = omega (arith, c.if-bytes-ne2.false) in
+    let line = rw c.in_ok-read.ensures.frame.same at c.in_ok-report_index.ensures.told in
+    index_reported old new c.in-Some.cat c.args.slot c.read.new.into c.requires.slot told c.in-Some.ensures.found
+    (subst (λ (n : ℕ). Overwrites old new c.in-Some.cat (1408 + 8 * n) (index_slot_bytes None)) slot
+    (rw (c.in_ok-report_index.ensures.frame.same, c.in_ok-read.ensures.frame.same) at c.in_ok-overwrite.ensures.put))
+    (subst (λ (k : ℕ). IsUnnamed old.files (tree_file k)) (slot_is c.args.slot c.in-Some-new.id c.in-Some-new.ensures) (rw (c.tree_file.ensures, c.in_ok-read.ensures.frame.same) at c.in-None.ensures.none))
+    (subst (λ (n : ℕ). c.read.new.into ≡ slice_range (bytes_at old.files c.in-Some.cat) (1408 + 8 * n) (1408 + 8 * n + 8)) slot (c.in_ok-read.ensures.bytes told))
+    two names _ _ (line told c.in-Some.ensures.found)
+
+pub returns-clause-slots : goal.returns-clause-slots
+returns-clause-slots g c = λ told.
+    let old = g.V.Files.state c.args.files.now in
+    let new = g.V.Files.state c.overwrite.new.files in
+    let slot : c.from.result ≡ c.args.slot = omega (arith, c.from.ensures) in
+    blank_spares old new c.in-Some.cat c.args.slot c.requires.slot told c.in-Some.ensures.found
+    (subst (λ (n : ℕ). Overwrites old new c.in-Some.cat (1408 + 8 * n) (index_slot_bytes None)) slot
+    (rw (c.in_ok-report_index.ensures.frame.same, c.in_ok-read.ensures.frame.same) at c.in_ok-overwrite.ensures.put))
+
+pub returns-then-bytes-ne2-clause-slots : goal.returns-then-bytes-ne2-clause-slots
+returns-then-bytes-ne2-clause-slots g c = λ told. spares_unchanged _ _ c.args.slot c.in_ok-read.ensures.frame.same
+
+pub returns-in-Some-find-clause-slots : goal.returns-in-Some-find-clause-slots
+returns-in-Some-find-clause-slots g c = λ told. spares_unchanged _ _ c.args.slot c.in_ok-read.ensures.frame.same
+
+pub returns-in_default-clause-slots : goal.returns-in_default-clause-slots
+returns-in_default-clause-slots g c = λ told. spares_unchanged (g.V.Files.state c.args.files.now) (g.V.Files.state c.args.files.now) c.args.slot refl

@@ -1,13 +1,15 @@
-use Rattle.std.proofs.Common.{◌≡◌, ◌≤◌, length, IsTrue, None}
+use Rattle.std.proofs.Common.{◌≡◌, ◌≤◌, ◌+◌, ◌*◌, length, IsTrue, None}
 use Rattle.stored.specs.CutTables.{IsCutTable}
 use Rattle.stored_mend.specs.Listed.{IsListedTo, indexes_below, relations_below}
 use Rattle.stored_mend.specs.Mending.{MendsAsBefore}
+use Rattle.stored_mend.specs.Reported.{Reports}
 use Rattle.stored_mend.proofs.mending.mend_catalog.Given as goal
 
 abbrev pub invariant-loop-slot : goal.invariant-loop-slot
 invariant-loop-slot g l = record {
   idle : (g.V.Files.state l.files).draft ≡ None;
   kept : MendsAsBefore (g.V.Files.state l.fn.files) (g.V.Files.state l.files);
+  reported : IsTrue (g.V.Files.state l.fn.files).tells → Reports (2 + 2 * l.slot) (g.V.Files.state l.fn.files) (g.V.Files.state l.files) l.fn.report.mended l.report.mended;
   listed : IsTrue (g.V.Files.state l.fn.files).tells → IsCutTable (g.V.Files.state l.fn.files).files → IsListedTo (relations_below l.slot) (g.V.Files.state l.files).files;
   store : length (g.V.Files.state l.files).store ≡ length (g.V.Files.state l.fn.files).store;
   lent : g.V.Files.lent l.files ≡ g.V.Files.lent l.fn.files;
@@ -19,6 +21,7 @@ abbrev pub invariant-loop-slot-2 : goal.invariant-loop-slot-2
 invariant-loop-slot-2 g l = record {
   idle : (g.V.Files.state l.files).draft ≡ None;
   kept : MendsAsBefore (g.V.Files.state l.fn.files) (g.V.Files.state l.files);
+  reported : IsTrue (g.V.Files.state l.fn.files).tells → IsCutTable (g.V.Files.state l.fn.files).files → Reports (18 + l.slot) (g.V.Files.state l.fn.files) (g.V.Files.state l.files) l.fn.report.mended l.report.mended;
   listed : IsTrue (g.V.Files.state l.fn.files).tells → IsCutTable (g.V.Files.state l.fn.files).files → IsListedTo (indexes_below l.slot) (g.V.Files.state l.files).files;
   store : length (g.V.Files.state l.files).store ≡ length (g.V.Files.state l.fn.files).store;
   lent : g.V.Files.lent l.files ≡ g.V.Files.lent l.fn.files;

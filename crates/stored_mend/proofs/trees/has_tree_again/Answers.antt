@@ -1,10 +1,13 @@
-use Rattle.std.proofs.Common.{◌≡◌, false, true}
-use Rattle.stored_mend.specs.Trees.{LacksRoom}
+use Rattle.std.proofs.Common.{◌≡◌, false, true, ℕ, refl, subst, sym}
+use Rattle.stored_mend.specs.Trees.{LacksRoom, ChangesAtMost}
 use Rattle.stored_mend.proofs.CatalogKept.{slot_is, slot_number}
 use Rattle.stored_mend.proofs.HeapSettled.{settles_without, slot_lost, slot_settled, slot_there}
 use Rattle.stored_mend.proofs.TreeFiles.{built_at_most, built_now, gone_there}
 use Rattle.stored_mend.proofs.TreesLost.{but_kept, kept_by, lost_by}
 use Rattle.space_model.specs.FileNames.{tree_file}
+use Rattle.stored_mend.proofs.ReportTrees.{reports_trees_nothing, tree_told}
+use Rattle.stored_mend.specs.Complete.{HasSlot}
+use Rattle.stored_mend.proofs.TreeTurns.{tree_replaced}
 use Rattle.stored_mend.proofs.trees.has_tree_again.Goals as goal
 
 pub returns-in_default-clause-settles : goal.returns-in_default-clause-settles
@@ -70,3 +73,50 @@ returns-in-Err-Space-clause-gone g c = λ is.
     let gone = rw (c.in-Err-Space.field-0-is, c.tree_file-name.ensures) at c.in-Err-Space.ensures.gone in
     slot_lost old new c.args.catalog.now c.in-Some.id c.args.slot _ (slot_is c.args.slot c.in-Some.id c.in-Some.ensures) c.requires.slot
     (rw c.in-Some-keys_of_tree.is at c.keys_of_tree.ensures.read) spares (gone_there new.files (tree_file c.in-Some.id) gone)
+
+pub returns-in-Err-Failed-clause-cut : goal.returns-in-Err-Failed-clause-cut
+returns-in-Err-Failed-clause-cut g c = λ told half may cuts.
+    let old = g.V.Files.state c.args.files.now in
+    let id = c.in-Some.id in
+    let same = slot_is c.args.slot id c.in-Some.ensures in
+    let here = subst (HasSlot old.files c.args.catalog.now) (sym same) may.here in
+    tree_replaced half old c.args.catalog.now id c.args.slot _ same c.requires.slot told may
+    ((rw c.in-Some-keys_of_tree.is at c.keys_of_tree.ensures.read) here may.trees.sound)
+    ((rw (c.in-Err-Failed.field-0-is, c.tree_file-name.ensures) at c.in-Err-Failed.ensures.cut) cuts told refl)
+
+-- what is told
+
+pub returns-in_default-clause-reported : goal.returns-in_default-clause-reported
+returns-in_default-clause-reported g c = λ told h s wrong is. reports_trees_nothing 1 _ _ _ _ refl refl
+
+pub returns-in_default-keys_of_tree-clause-reported : goal.returns-in_default-keys_of_tree-clause-reported
+returns-in_default-keys_of_tree-clause-reported g c = λ told h s wrong is. reports_trees_nothing 1 _ _ _ _ refl refl
+
+pub returns-in_default-find-clause-reported : goal.returns-in_default-find-clause-reported
+returns-in_default-find-clause-reported g c = λ told h s wrong is. reports_trees_nothing 1 _ _ _ _ refl refl
+
+pub returns-in-Ok-clause-reported : goal.returns-in-Ok-clause-reported
+returns-in-Ok-clause-reported g c = λ told h s wrong is.
+    let old = g.V.Files.state c.args.files.now in
+    let new = g.V.Files.state c.replace_tree_of.new.files in
+    let same = slot_is c.args.slot c.in-Some.id c.in-Some.ensures in
+    let changes = built_at_most old new c.in-Some-find.tree _ _ c.in-Some-find.ensures.found c.in-Some-find.ensures.only c.in-Ok.ensures.built in
+    let here = subst (λ (k : ℕ). ChangesAtMost old new (tree_file k)) same (rw c.tree_file-name.ensures at changes) in
+    let settled = (returns-in-Ok-clause-settles g c is).settles told h s in
+    tree_told old new c.args.catalog.now c.in-Some.id c.args.slot _ same c.requires.slot h s (rw c.in-Some-keys_of_tree.is at c.keys_of_tree.ensures.read) here.spares settled.spares wrong settled.here
+    _ _ c.report_slot.ensures.told
+
+pub returns-in-Err-Space-clause-reported : goal.returns-in-Err-Space-clause-reported
+returns-in-Err-Space-clause-reported g c = λ told h s wrong is. let never : false ≡ true = is in absurd (cc)
+
+pub returns-in_default-clause-still : goal.returns-in_default-clause-still
+returns-in_default-clause-still g c = λ is. refl
+
+pub returns-in_default-keys_of_tree-clause-still : goal.returns-in_default-keys_of_tree-clause-still
+returns-in_default-keys_of_tree-clause-still g c = λ is. refl
+
+pub returns-in_default-find-clause-still : goal.returns-in_default-find-clause-still
+returns-in_default-find-clause-still g c = λ is. refl
+
+pub returns-in-Ok-clause-still : goal.returns-in-Ok-clause-still
+returns-in-Ok-clause-still g c = λ is. let never : true ≡ false = is in absurd (cc)
