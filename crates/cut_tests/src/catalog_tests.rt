@@ -95,15 +95,15 @@ const OFTEN_CHANGED: &[Case] = &[
 
 #[test]
 fn catalogs_are_put_right(rt: HostRuntime) -> Result<(), Fail> {
-    all_are_put_right(rt.alloc(), CATALOGS, 12_000)
+    all_are_put_right(rt.alloc(), CATALOGS, 6_000)
 }
 
 #[test]
 fn catalogs_that_move_are_put_right(rt: HostRuntime) -> Result<(), Fail> {
-    all_are_put_right(rt.alloc(), OFTEN_CHANGED, 7_500)
+    all_are_put_right(rt.alloc(), OFTEN_CHANGED, 3_500)
 }
 
 #[test]
 fn catalogs_of_version_1_are_put_right(rt: HostRuntime) -> Result<(), Fail> {
-    all_are_put_right(rt.alloc(), OLD, 6_500)
+    all_are_put_right(rt.alloc(), OLD, 3_000)
 }

@@ -68,15 +68,15 @@ const LOADS: &[Case] = &[Case {
 
 #[test]
 fn indexes_are_put_right(rt: HostRuntime) -> Result<(), Fail> {
-    all_are_put_right(rt.alloc(), INDEXES, 13_000)
+    all_are_put_right(rt.alloc(), INDEXES, 6_500)
 }
 
 #[test]
 fn loads_of_a_tree_are_put_right(rt: HostRuntime) -> Result<(), Fail> {
-    all_are_put_right(rt.alloc(), LOADS, 13_000)
+    all_are_put_right(rt.alloc(), LOADS, 6_500)
 }
 
 #[test]
 fn indexes_on_many_sectors_are_put_right(rt: HostRuntime) -> Result<(), Fail> {
-    all_are_put_right(rt.alloc(), ROOMY, 1_700)
+    all_are_put_right(rt.alloc(), ROOMY, 800)
 }

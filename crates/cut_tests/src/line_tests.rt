@@ -53,10 +53,10 @@ const GENERATED: &[Case] = &[
 
 #[test]
 fn lines_of_frames_are_put_right(rt: HostRuntime) -> Result<(), Fail> {
-    all_are_put_right(rt.alloc(), SERVED_LINES, 7_000)
+    all_are_put_right(rt.alloc(), SERVED_LINES, 3_500)
 }
 
 #[test]
 fn generated_commands_are_put_right(rt: HostRuntime) -> Result<(), Fail> {
-    all_are_put_right(rt.alloc(), GENERATED, 16_000)
+    all_are_put_right(rt.alloc(), GENERATED, 8_000)
 }

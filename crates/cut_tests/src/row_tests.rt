@@ -79,15 +79,15 @@ const COLLECTED: &[Case] = &[Case {
 
 #[test]
 fn a_few_rows_are_put_right(rt: HostRuntime) -> Result<(), Fail> {
-    all_are_put_right(rt.alloc(), FEW, 4_500)
+    all_are_put_right(rt.alloc(), FEW, 2_000)
 }
 
 #[test]
 fn files_that_grow_are_put_right(rt: HostRuntime) -> Result<(), Fail> {
-    all_are_put_right(rt.alloc(), GROWN_FILES, 14_500)
+    all_are_put_right(rt.alloc(), GROWN_FILES, 6_500)
 }
 
 #[test]
 fn files_that_grow_on_few_sectors_are_put_right(rt: HostRuntime) -> Result<(), Fail> {
-    all_are_put_right(rt.alloc(), COLLECTED, 15_500)
+    all_are_put_right(rt.alloc(), COLLECTED, 7_000)
 }

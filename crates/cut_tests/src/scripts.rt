@@ -82,7 +82,8 @@ fn cut(alloc: Global, case: &Case, seed: u32) -> Tally {
     }
 }
 
-/// Cuts each story at each write. All is repaired, of this many images at least.
+/// Cuts each story at each write. All is repaired, of this many images at least: half of what there are, so that a
+/// run with fewer writes is no failure.
 pub fn all_are_put_right(alloc: Global, cases: &[Case], least: u64) -> Result<(), Fail> {
     let mut images = 0u64;
     let mut seed = 0u32;

@@ -82,9 +82,8 @@ fn rows_of_a_draft_are_programmed_many_at_once(rt: HostRuntime) {
     let mut image = erased();
     assert!(rt; make_short_rows(&mut image));
     // The header of the draft, the flag of the draft and that of the file before are one program each.
-    // Between them 900 bytes, after a header of 32, go 255 at a time: the first three of four pieces cross
-    // the end of a page.
-    assert!(rt; takes(&mut image, Change::Remove, 10));
-    // Of 450 bytes the first of two pieces does.
-    assert!(rt; takes(&mut image, Change::Pack, 6));
+    // Between them 900 bytes, after a header of 32, lie in four pages, each of which is programmed once.
+    assert!(rt; takes(&mut image, Change::Remove, 7));
+    // 450 bytes lie in two.
+    assert!(rt; takes(&mut image, Change::Pack, 5));
 }
