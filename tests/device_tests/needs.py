@@ -38,7 +38,7 @@ def measured():
     return [it for it in MEASURED if it[0] in found]
 
 
-MOST_RAM = 100 * 1024
+MOST_RAM = 76 * 1024
 
 
 def deepest(board):
@@ -48,35 +48,29 @@ def deepest(board):
     return int(re.match(r"board_start takes (\d+) bytes", told)[1])
 
 
-def bounded():
-    """Of these the ones of which the compiler wrote the frames down; the toolchain compiles for 64-bit ARM by itself."""
-    return [it for it in measured() if it != ("aarch64",)]
-
-
 def test_the_stack_of_a_board_is_as_large_as_any_calls_need():
     """So no input makes it overflow."""
     for words in measured():
         board = build(*words)
         sizes = built[board]
         same(sizes["stack"] + sizes["static data"] <= MOST_RAM, True, f"that {board} has at most {MOST_RAM} bytes of RAM")
-        if words in bounded():
-            most = deepest(board)
-            print(f"{board}: stack {most} bytes at most by its calls, and with static data {sizes['static data'] + most} of RAM")
-            same(most <= sizes["stack"], True, f"that {most} bytes fit into the stack of {board}, which has {sizes['stack']}")
+        most = deepest(board)
+        print(f"{board}: stack {most} bytes at most by its calls, and with static data {sizes['static data'] + most} of RAM")
+        same(most <= sizes["stack"], True, f"that {most} bytes fit into the stack of {board}, which has {sizes['stack']}")
 
 
 def test_the_memory_of_the_library_is_as_large_as_any_calls_need():
     """The program is the same; the library's own calls and interrupts take what is left."""
     lent = 1024 * int(re.search(r"SORACHEST_MEMORY = (\d+) \* 1024", read(f"{ROOT}/node/sorachest_node.h").decode())[1])
     guard, heap, left = 64, 5 * 256 + 96, 2048
-    for words in bounded():
+    for words in measured():
         most = deepest(build(*words))
         same(most + guard + heap + left <= lent, True, f"that {lent} bytes are enough on {words}, where calls take {most}")
 
 
 def test_every_form_fits_into_the_memory_of_a_board():
     for words in measured():
-        bound = deepest(build(*words)) if words in bounded() else MOST_RAM
+        bound = deepest(build(*words))
         board, most = build(*words, "measure"), {"stack": 0, "heap": 0}
         runs = [("run", f"{EXAMPLES}/{it}.aql") for it in examples()]
         runs += [("gen", "7", "100"), ("plan", "100"), ("dump",), ("look",), ("check",), ("repair",), ("collect",)]

@@ -23,8 +23,9 @@ def acknowledged(begun, many):
 
 def load_and_cut(board, rows, many):
     """Inserts rows until this many are acknowledged, cuts the power during the next ones, and returns how many were acknowledged."""
-    begun = begin(board, "run", "chip", "script", stdin=subprocess.DEVNULL)
+    # before the board begins, which reads it at once
     write("script", linux.inserts(rows, many + 400))
+    begun = begin(board, "run", "chip", "script", stdin=subprocess.DEVNULL)
     got = acknowledged(begun, many)
     time.sleep(random.uniform(0, 0.02))
     cut_off(begun)
