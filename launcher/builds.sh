@@ -28,7 +28,7 @@ compile_unproved() {
     needs_tools "a try"
     lock_folder "$out/unproved"
     if ! is_current; then
-        say "compiling the program without its proofs: about half a minute, once"
+        say "compiling the program without its proofs: less than a minute, once"
         touch "$out/unproved/start"
         "$here/.ci/unproved" "$program.new" 9>&- || fail "the program was not compiled"
         # a source that was changed meanwhile must be newer

@@ -23,7 +23,7 @@ usage() {
     echo "$forms" | while IFS='|' read -r words does; do printf '    %-26s%s\n' "$words" "$does"; done
     cat <<'END'
 SCRIPT and INPUT may be - for standard input. run, serve and gen make an IMAGE that does not exist.
-    try COMMAND               runs the program without its proofs: the first call compiles it, in half a minute
+    try COMMAND               runs the program without its proofs: the first call compiles it, in less than a minute
     try SCRIPT                carries out a script on a new image, which is not kept
     --strict                  for run: ends with status 11 if a command of SCRIPT was refused
     --sync                    waits until each write is on the disk, in case the machine loses power

@@ -134,8 +134,16 @@ def test_a_strict_run_that_is_ended_leaves_nothing_behind():
         begun.communicate()
         same(os.listdir("own"), [], f"folders that the {number}th run left")
     needs("/proc/self/environ")
-    left = [it for it in os.listdir("/proc") if it.isdigit() and f"TMPDIR={os.getcwd()}/own".encode() in environment_of(it)]
-    same(left, [], "processes that are left")
+    # what the launcher looked for with `find` when the signal came may still be ending
+    ends = time.monotonic() + 5
+    while begun_with(f"TMPDIR={os.getcwd()}/own") and time.monotonic() < ends:
+        time.sleep(0.05)
+    same(begun_with(f"TMPDIR={os.getcwd()}/own"), [], "processes that are left")
+
+
+def begun_with(variable):
+    """The processes that have this variable in their environment."""
+    return [it for it in os.listdir("/proc") if it.isdigit() and variable.encode() in environment_of(it)]
 
 
 def environment_of(process):

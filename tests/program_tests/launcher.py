@@ -226,7 +226,7 @@ def test_a_folder_that_cannot_be_written_ends_with_125():
 
 
 TRIED = "a try: this program was compiled without its proofs"
-COMPILES = "compiling the program without its proofs: about half a minute, once"
+COMPILES = "compiling the program without its proofs: less than a minute, once"
 
 
 def test_a_try_compiles_once_and_builds_nothing():

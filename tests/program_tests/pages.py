@@ -23,7 +23,7 @@ NOT_RUN = {
 TWO_KEYS = b"CREATE RELATION s; CREATE ATTRIBUTE k DOMAIN INT IN s; INSERT (5) INTO s; INSERT (-1) INTO s;"
 # what a call of `try` says before all else, and the pages leave out
 LEFT_OUT = (
-    "antelope: compiling the program without its proofs: about half a minute, once",
+    "antelope: compiling the program without its proofs: less than a minute, once",
     "antelope: a try: this program was compiled without its proofs",
 )
 SOCAT = """#!/usr/bin/env python3
