@@ -2,12 +2,12 @@
 use Rattle.std.proofs.Common.{◌≡◌, ◌≢◌, ◌⊎◌, inl, inr, ⊎_elim, ℕ, suc, ◌-◌, ◌<◌, ◌≤◌, true, ◌||◌, ◌==◌, List, [], ◌∷◌, length, get_or, Option, Some, None, refl, ap, sym, subst, ◌∙◌, arith, bit_or, length-set}
 use Rattle.std.specs.Prelude.{set}
 use Rattle.std.specs.List.{Contains}
-use Rattle.std.proofs.lemmas.Bool.{cases_eq, cases_lt}
+use Rattle.std.proofs.lemmas.Bool.{cases_eq, cases_lt, cases_order}
 use Rattle.afl_base.specs.declared.ids.PageId.{PageId}
 use Rattle.afl_base.specs.declared.kind.Kind.{Kind}
 use Rattle.coffee_header.specs.declared.header.Header.{Header}
 use Rattle.coffee_layout.specs.FileBytes.{file_byte}
-use Rattle.coffee_layout.specs.Files.{Placed, extents, files_in, is_file, log_of}
+use Rattle.coffee_layout.specs.Files.{Placed, extents, files_in, is_file}
 use Rattle.coffee_layout.specs.Tiling.{IsTiled, nowhere, units_of}
 use Rattle.coffee_layout.specs.Walks.{has_few}
 use Rattle.coffee_layout.specs.declared.file.FileAt.{FileAt}
@@ -26,14 +26,14 @@ use Rattle.coffee_merge.proofs.Holdings.{draft_unit, extent_here, file_unit, hol
 use Rattle.coffee_merge.proofs.Marked.{Reflags, flagged_extent}
 use Rattle.coffee_merge.proofs.MovedFiles.{bytes_same}
 use Rattle.coffee_merge.proofs.Retired.{inactive, obsolete_flags, only_one, only_then}
-use Rattle.coffee_merge.proofs.SoundHolders.{log_is, placed}
+use Rattle.coffee_merge.proofs.SoundHolders.{placed}
 use Rattle.coffee_merge.proofs.SoundUnits.{Among, among_filter, begun_extent}
 use Rattle.coffee_merge.proofs.Turned.{file_body}
 use Rattle.padded.proofs.Facts.{none_some, some_same}
-use Rattle.coffee_cuts.specs.Cuts.{IsActiveAt, IsFound, IsReplacing, Nothing, Replacing, UnderWay, Unnamed, settled}
+use Rattle.coffee_cuts.specs.Cuts.{IsActiveAt, IsFound, IsOver, Nothing, Replacing, UnderWay, Unnamed, settled}
 use Rattle.coffee_cuts.specs.Mending.{EndsRight, IsTable, MendsToTable, as_file}
 use Rattle.coffee_cuts.proofs.Drafts.{drafted_mends, off_draft, undrafted}
-use Rattle.coffee_cuts.proofs.Mended.{file_stays, mends_after, mends_holding, mends_same, named, sparing_set, sparing_without, whole_mends}
+use Rattle.coffee_cuts.proofs.Mended.{SettlesHolding, file_stays, mends_after, mends_same, named, settles_by, settling_mends, sparing_set, sparing_without, whole_mends}
 use Rattle.coffee_merge.proofs.SoundHolders.{file_is}
 
 -- FILES THAT ARE FOUND
@@ -186,24 +186,17 @@ module _ (whole : List ℕ) (table : Entries) (d e : FileAt) (i : ℕ) (t : IsTa
   new_mends : (new : List ℕ) (w : UnderWay) → IsFound new w → settled new w ≡ obsoleted both e.page.0 e.log → MendsToTable new whole after
   new_mends new w found at = committed_mends new whole table d i w t few last found inside (subst (λ s. CommitsExtent whole s table i d) (sym at) all)
 
-  -- the old one has a log, or stands behind: it goes
-  pub old_replaced : (e.log ≡ None → d.page.0 < e.page.0) → IsReplacing both (placed e) new_placed
-  old_replaced front = record {
-    old_there = old_found;
-    new_there = new_found;
+  -- the old one has no log, and the new one is over it: the old one goes
+  old_goes : e.log ≡ None → IsOver new_placed (placed e) → MendsToTable both whole after
+  old_goes none over = new_mends both (Replacing (placed e) new_placed) (record {
+    dropped_there = old_found;
+    kept_there = new_found;
     apart = apart;
     one_name = named_so;
-    new_has_none = ap log_number no_log;
-    before = λ zero. front (none_number e.log zero);
-    logged = λ l named. record { header = log_header e.name; there = begun_active (units_of both) l.0 (log_header e.name) (replaced_log whole table d e i l t.holds is (sym (log_is e.log) ∙ named)) refl; flags_are = refl };
-  }
-    where
-      none_number : (log : Option PageId) → log_number log ≡ 0 → log ≡ None
-      none_number None z = refl
-      none_number (Some l) z = absurd (omega (arith, z))
-
-  old_goes : (e.log ≡ None → d.page.0 < e.page.0) → MendsToTable both whole after
-  old_goes front = new_mends both (Replacing (placed e) new_placed) (old_replaced front) (ap (obsoleted both e.page.0) (log_is e.log))
+    plain = ap file_flags none;
+    no_log = ap log_number none;
+    over = λ zero. over;
+  }) (ap (obsoleted both e.page.0) (sym none))
 
   -- else the new one goes
   abbrev gone : List ℕ
@@ -220,28 +213,39 @@ module _ (whole : List ℕ) (table : Entries) (d e : FileAt) (i : ℕ) (t : IsTa
       (λ k f at. file_body whole gone table (Some d) k f t.holds
       (only_then nowhere whole both gone d.page.0 new_header (Extent (draft_header d)) r (draft_unit whole table d t.holds) (only_one nowhere both gone d.page.0 now (Extent new_header) s r.here)) at)
 
-  new_goes : e.log ≡ None → e.page.0 < d.page.0 → MendsToTable both whole table
-  new_goes none front =
-      let back : obsoleted both d.page.0 (log_of new_header) ≡ gone = ap (obsoleted both d.page.0) (log_is d.log ∙ no_log) in
-      mends_holding both whole table (Some d) (Replacing new_placed (placed e)) t (record {
-        old_there = new_found;
-        new_there = old_found;
-        apart = λ same. apart (sym same);
-        one_name = sym named_so;
-        new_has_none = ap log_number none;
-        before = λ zero. front;
-        logged = λ l named. absurd (none_some l (sym (log_is d.log ∙ no_log) ∙ named));
-      }) (subst (λ s. Stays whole s table) (sym back) new_stays)
+  -- the old one has a log, or is over the new one
+  pub new_goes : ((placed e).header.log_page ≡ 0 → IsOver (placed e) new_placed) → SettlesHolding both whole table
+  new_goes over = settles_by both whole table (Some d) (Replacing new_placed (placed e)) t (record {
+    dropped_there = new_found;
+    kept_there = old_found;
+    apart = λ same. apart (sym same);
+    one_name = sym named_so;
+    plain = refl;
+    no_log = ap log_number no_log;
+    over = over;
+  }) new_stays
 
   both_mend : MendsToTable both whole table ⊎ MendsToTable both whole after
   both_mend = by_log e.log refl
     where
-      by_log : (log : Option PageId) → e.log ≡ log → MendsToTable both whole table ⊎ MendsToTable both whole after
-      by_log (Some l) log = inr (old_goes (λ none. absurd (none_some l (sym none ∙ log))))
-      by_log None log = ⊎_elim
-          (λ (front : e.page.0 < d.page.0). inl (new_goes log front))
-          (λ (behind : d.page.0 ≤ e.page.0). inr (old_goes (λ none. let other = apart in omega (arith, behind, other))))
+      before : ((placed e).header.log_page ≡ 0 → IsOver (placed e) new_placed) → MendsToTable both whole table ⊎ MendsToTable both whole after
+      before over = inl (settling_mends both whole table (Some d) t (new_goes over))
+
+      by_page : e.log ≡ None → d.pages ≡ e.pages → MendsToTable both whole table ⊎ MendsToTable both whole after
+      by_page none same = ⊎_elim
+          (λ (front : e.page.0 < d.page.0). inr (old_goes none (inr (sym same, front))))
+          (λ (behind : d.page.0 ≤ e.page.0). before (λ zero. inr (same, let other = apart in omega (arith, behind, other))))
           (cases_lt e.page.0 d.page.0)
+
+      by_log : (log : Option PageId) → e.log ≡ log → MendsToTable both whole table ⊎ MendsToTable both whole after
+      by_log (Some l) log = before (λ zero. let some : log_number (Some l) ≡ 0 = ap log_number (sym log) ∙ zero in absurd (omega (arith, some)))
+      by_log None log = ⊎_elim
+          (λ (same : d.pages ≡ e.pages). by_page log same)
+          (λ (order : (d.pages < e.pages) ⊎ (e.pages < d.pages)). ⊎_elim
+          (λ (less : d.pages < e.pages). before (λ zero. inl less))
+          (λ (more : e.pages < d.pages). inr (old_goes log (inl more)))
+          order)
+          (cases_order d.pages e.pages)
 
   -- the old extent is obsolete, and its log is not yet
   pub log_unnamed : (l : PageId) → e.log ≡ Some l → IsActiveAt (flagged both e.page.0 4) l.0 19

@@ -1,13 +1,13 @@
 -- An image of which a sector was being erased breaks one of the rules 1 to 4 in that sector first, or is erased there already.
-use Rattle.std.proofs.Common.{◌≡◌, ◌≢◌, ◌⊎◌, inl, inr, ⊎_elim, ℕ, zero, suc, ◌+◌, ◌-◌, ◌*◌, ◌/◌, ◌%◌, ◌<◌, ◌≤◌, Bool, true, false, not, ◌&&◌, ◌||◌, ◌==◌, nat_lt, List, [], ◌∷◌, length, replicate, Option, Some, None, if◌then◌else◌, refl, ap, sym, subst, ◌∙◌, arith, bit_and}
+use Rattle.std.proofs.Common.{◌≡◌, ◌≢◌, ◌⊎◌, inl, inr, ⊎_elim, ℕ, zero, suc, ◌+◌, ◌-◌, ◌*◌, ◌/◌, ◌%◌, ◌<◌, ◌≤◌, Bool, true, false, ◌||◌, ◌==◌, nat_lt, List, [], ◌∷◌, length, replicate, Option, Some, None, refl, ap, sym, ◌∙◌, arith, bit_and}
 use Rattle.std.proofs.lemmas.Bool.{cases_eq, cases_lt}
 use Rattle.afl_base.specs.Image.{page_bytes, zeros_at}
-use Rattle.afl_base.proofs.Images.{erased_other_page, erased_page, length_range, length_zeros_at}
+use Rattle.afl_base.proofs.Images.{erased_other_page, erased_page, length_range}
 use Rattle.coffee_header.specs.Headers.{is_flags}
 use Rattle.coffee_header.specs.declared.header.Header.{Header}
 use Rattle.coffee_layout.specs.Rules.{broken_image}
-use Rattle.coffee_layout.specs.Tiling.{IsTiled, KeepRules, broken_at, broken_from, broken_suffix, broken_tiling, broken_unit, nowhere, units_from, units_of}
-use Rattle.coffee_layout.specs.Units.{is_free, pages_of, size_of, total, unit_at}
+use Rattle.coffee_layout.specs.Tiling.{KeepRules, broken_at, broken_from, broken_suffix, broken_tiling, broken_unit, nowhere, units_from, units_of}
+use Rattle.coffee_layout.specs.Units.{is_free, pages_of, size_of, unit_at}
 use Rattle.coffee_layout.specs.declared.unit.BadImage.{BadImage}
 use Rattle.coffee_layout.specs.declared.unit.Unit.{Unit}
 use Rattle.coffee_layout.specs.declared.unit.Unit.TheVariants.{Extent, Free, Isolated}
@@ -18,11 +18,11 @@ use Rattle.coffee_layout.proofs.Tilings.{broken_here, kept_inside, units_step}
 use Rattle.coffee_merge.specs.Begun.{unit_begun}
 use Rattle.coffee_merge.proofs.Begun.{begun_there}
 use Rattle.padded.specs.Zeros.{is_zeros}
-use Rattle.padded.proofs.Facts.{by_truth, eq_true, yes_no}
+use Rattle.padded.proofs.Facts.{by_truth, yes_no}
 use Rattle.coffee_cuts.specs.Cuts.{IsErasing, IsHeadless, IsSettled}
-use Rattle.coffee_cuts.proofs.MarkedPages.{extent_ninth, isolated_ninth, ninth, stands_at, thirty_four}
+use Rattle.coffee_cuts.proofs.MarkedPages.{extent_ninth, isolated_ninth, ninth, thirty_four}
 use Rattle.coffee_cuts.proofs.Reached.{begun_past, no_unit, same_unit}
-use Rattle.coffee_cuts.proofs.SettledRules.{KeepsSettled, settled_kept}
+use Rattle.coffee_cuts.proofs.SettledRules.{settled_kept}
 use Rattle.coffee_cuts.proofs.TornBeginnings.{erased_front, erased_long}
 use Rattle.coffee_cuts.proofs.ZeroPages.{all_zero, images_same}
 use Rattle.coffee_cuts.proofs.FirstRules.{broken_same, kept_first, no_head}

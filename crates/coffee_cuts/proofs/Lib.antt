@@ -1,4 +1,4 @@
-mod AlikeFiles
+pub mod AlikeFiles
 pub mod BrokenOff
 pub mod Collections
 pub mod Commits
@@ -27,3 +27,8 @@ pub mod LoneLogs
 pub mod TornRule
 pub mod TornLogs
 pub mod Shown
+pub mod Superseding
+pub mod SupersedingRule
+pub mod SupersededRecords
+pub mod SupersedingSteps
+pub mod TornAlone

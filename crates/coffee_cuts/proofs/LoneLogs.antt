@@ -1,5 +1,5 @@
 -- The rule that is broken first where a log stands that no file names.
-use Rattle.std.proofs.Common.{◌≡◌, ◌≢◌, ◌⊎◌, inl, inr, ⊎_elim, ℕ, ◌+◌, ◌-◌, ◌*◌, ◌/◌, ◌<◌, ◌≤◌, Bool, true, false, not, ◌&&◌, ◌||◌, ◌==◌, List, [], ◌∷◌, ◌++◌, length, drop, Option, Some, None, if◌then◌else◌, refl, ap, sym, subst, ◌∙◌, arith, bit_or}
+use Rattle.std.proofs.Common.{◌≡◌, ◌≢◌, ◌⊎◌, inl, inr, ⊎_elim, ℕ, ◌+◌, ◌*◌, Bool, true, false, ◌||◌, ◌==◌, List, [], ◌∷◌, ◌++◌, length, drop, Option, Some, None, if◌then◌else◌, refl, ap, sym, subst, ◌∙◌, arith, bit_or}
 use Rattle.std.specs.Option.{option_or}
 use Rattle.std.specs.List.{filter, list_any}
 use Rattle.std.proofs.lemmas.Bool.{cases_eq}
@@ -18,8 +18,8 @@ use Rattle.coffee_cuts.specs.Cuts.{IsActiveAt, IsSettled}
 use Rattle.coffee_cuts.proofs.MarkedPages.{flagged_ninth, ninth, other_page, stands_at}
 use Rattle.coffee_cuts.proofs.Reached.{same_unit}
 use Rattle.coffee_cuts.proofs.SettledRules.{KeepsSettled, begins, file_of_units, log_there, placed_at, settled_kept}
-use Rattle.coffee_cuts.proofs.TwoMarks.{IsMarked, active_ninth, four, once_marked, turned_begins}
-use Rattle.coffee_cuts.proofs.NamedLogs.{among_back, among_either, among_front, among_one_more, failing_at, few_enough, filter_in, filter_out, parts}
+use Rattle.coffee_cuts.proofs.TwoMarks.{active_ninth, four, once_marked, turned_begins}
+use Rattle.coffee_cuts.proofs.NamedLogs.{among_either, among_front, among_one_more, failing_at, few_enough, filter_in, filter_out, parts}
 use Rattle.coffee_cuts.proofs.Replaced.{IsKnown, marked_unbroken}
 
 -- the rule 7 or 9 is broken first, at a page

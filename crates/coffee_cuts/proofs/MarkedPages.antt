@@ -129,14 +129,6 @@ flagged_marked image page flag q mark = ⊎_elim
     (λ (there : q ≢ page). same_marked image (flagged image page flag) q (other_page image page flag q there))
     (cases_eq q page)
 
-pub marked_twice : (a b c : List ℕ) (page : ℕ) → IsMarkedAt a b page → IsMarkedAt b c page → (ninth a page ≡ 0 → is_flags (ninth c page) ≡ false) → IsMarkedAt a c page
-marked_twice a b c page m n none = record {
-  others = λ k low other. n.others k low other ∙ m.others k low other;
-  bits = n.bits ∙ m.bits;
-  none = none;
-  zero = λ z. m.zero (n.zero z);
-}
-
 -- ---- UNITS
 
 pub head_byte : (image : List ℕ) (page k : ℕ) → k < 32 → get_or (take 32 (page_bytes image page)) k 0 ≡ get_or image (256 * page + k) 0

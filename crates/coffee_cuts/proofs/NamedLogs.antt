@@ -1,31 +1,28 @@
 -- The rule that is broken first where a log was being named, or no file names it.
-use Rattle.std.proofs.Common.{◌≡◌, ◌≢◌, ◌⊎◌, inl, inr, ⊎_elim, ℕ, zero, suc, ◌+◌, ◌-◌, ◌*◌, ◌/◌, ◌<◌, ◌≤◌, Bool, true, false, not, ◌&&◌, ◌||◌, ◌==◌, nat_lt, List, [], ◌∷◌, ◌++◌, length, drop, Option, Some, None, if◌then◌else◌, refl, ap, sym, subst, ◌∙◌, arith, bit_or}
+use Rattle.std.proofs.Common.{◌≡◌, ◌≢◌, ◌⊎◌, inl, inr, ⊎_elim, ℕ, zero, suc, ◌+◌, ◌*◌, ◌<◌, ◌≤◌, Bool, true, false, ◌||◌, ◌==◌, List, [], ◌∷◌, ◌++◌, length, drop, Option, Some, None, if◌then◌else◌, refl, ap, sym, subst, ◌∙◌, arith, bit_or}
 use Rattle.std.specs.Option.{option_or}
-use Rattle.std.specs.List.{Contains, filter, list_any}
-use Rattle.std.proofs.lemmas.Bool.{cases_eq, cases_lt}
+use Rattle.std.specs.List.{filter, list_any}
+use Rattle.std.proofs.lemmas.Bool.{cases_eq}
 use Rattle.std.proofs.lemmas.List.{length-append}
 use Rattle.std.proofs.lemmas.List.Elements.{filter-append}
-use Rattle.afl_base.specs.Image.{page_bytes}
 use Rattle.coffee_header.specs.declared.header.Header.{Header}
 use Rattle.coffee_layout.specs.Files.{Placed, extents, files_in, is_file, is_log, logs_in}
-use Rattle.coffee_layout.specs.Rules.{broken_files, broken_image, first_failing, first_page, first_repeated, has_fields, is_log_of, names_its_log, names_log, same_name}
-use Rattle.coffee_layout.specs.Tiling.{IsCovered, IsTiled, StandFrom, at_place, broken_tiling, nowhere, units_of}
-use Rattle.coffee_layout.specs.Units.{pages_of, size_of, total, unit_at}
+use Rattle.coffee_layout.specs.Rules.{broken_files, broken_image, first_failing, first_page, first_repeated, has_fields, is_log_of, names_its_log, same_name}
+use Rattle.coffee_layout.specs.Tiling.{IsTiled, StandFrom, at_place, broken_tiling, nowhere, units_of}
+use Rattle.coffee_layout.specs.Units.{size_of, total, unit_at}
 use Rattle.coffee_layout.specs.declared.unit.BadImage.{BadImage}
 use Rattle.coffee_layout.specs.declared.unit.Unit.{Unit}
 use Rattle.coffee_layout.specs.declared.unit.Unit.TheVariants.{Extent, Free, Isolated}
 use Rattle.coffee_layout.proofs.Frames.{total-append, unit_at_same}
 use Rattle.coffee_layout.proofs.Tilings.{tiled_covered, units_covered}
-use Rattle.coffee_merge.specs.Begun.{unit_begun}
 use Rattle.coffee_merge.specs.Flags.{flagged}
 use Rattle.coffee_merge.proofs.Begun.{begun_split}
-use Rattle.coffee_merge.proofs.SoundUnits.{Among, among_any, among_filter, any_among, failing_none, filter_among, none_failing}
-use Rattle.padded.proofs.Facts.{by_truth, eq_true, false_by, true_eq, yes_no}
+use Rattle.coffee_merge.proofs.SoundUnits.{Among, failing_none}
+use Rattle.padded.proofs.Facts.{false_by, true_eq}
 use Rattle.coffee_cuts.specs.Cuts.{IsActiveAt, IsSettled}
 use Rattle.coffee_cuts.proofs.MarkedPages.{flagged_ninth, ninth, other_page, stands_at}
-use Rattle.coffee_cuts.proofs.Reached.{same_unit}
-use Rattle.coffee_cuts.proofs.SettledRules.{KeepsSettled, begins, file_of_units, log_there, placed_at, settled_kept, some_logged}
-use Rattle.coffee_cuts.proofs.TwoMarks.{IsMarked, active_ninth, eight, four, once_marked, turned_begins}
+use Rattle.coffee_cuts.proofs.SettledRules.{KeepsSettled, begins, placed_at, settled_kept, some_logged}
+use Rattle.coffee_cuts.proofs.TwoMarks.{active_ninth, eight, once_marked, turned_begins}
 use Rattle.coffee_cuts.proofs.Replaced.{IsKnown, marked_unbroken}
 
 -- ---- LISTS OF EXTENTS

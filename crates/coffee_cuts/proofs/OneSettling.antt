@@ -6,11 +6,11 @@ use Rattle.std.proofs.lemmas.Bool.{cases_eq, cases_order}
 use Rattle.std.proofs.lemmas.List.{get_or-replicate}
 use Rattle.afl_base.specs.Image.{page_bytes, zeros_at}
 use Rattle.afl_base.proofs.Images.{erased_other_page, length_or_at, length_zeros_at}
-use Rattle.coffee_layout.specs.Files.{NamedFile, Placed, files_of, log_of}
+use Rattle.coffee_layout.specs.Files.{NamedFile, Placed, files_of}
 use Rattle.coffee_layout.specs.Units.{unit_at}
 use Rattle.coffee_layout.specs.declared.unit.Unit.TheVariants.{Extent, Isolated}
 use Rattle.coffee_layout.specs.declared.file.FileAt.{FileAt}
-use Rattle.coffee_merge.specs.Flags.{flagged, obsoleted}
+use Rattle.coffee_merge.specs.Flags.{flagged}
 use Rattle.coffee_merge.specs.Holding.{Entries, IsIn}
 use Rattle.coffee_merge.specs.TableFiles.{file_of}
 use Rattle.coffee_cuts.specs.Cuts.{IsActiveAt, IsErasing, IsFound, IsReplacing, IsSettled, IsTornHeader, MendsTo, UnderWay, Nothing, Beginning, Building, Erasing, Unnamed, Naming, Replacing, settled}
@@ -19,7 +19,7 @@ use Rattle.coffee_cuts.proofs.MarkedPages.{flagged_ninth, isolated_ninth, ninth,
 use Rattle.coffee_cuts.proofs.Reached.{no_unit}
 use Rattle.coffee_cuts.proofs.SettledRules.{KeepsSettled, settled_kept}
 use Rattle.coffee_cuts.proofs.TornBeginnings.{erased_front, erased_nothing, isolated_or_erased, marked_zero, torn_alone, torn_unmarked, torn_unreached}
-use Rattle.coffee_cuts.proofs.TwoMarks.{IsFileFlags, IsMarked, IsObsoleted, active_ninth, eight, file_ninth, five, four, gone_marked, itself_marked, no_draft_left, no_naming_left, no_two_left, no_unnamed_left, obsoleted_ninth, once_marked, one_gone}
+use Rattle.coffee_cuts.proofs.TwoMarks.{IsFileFlags, IsMarked, active_ninth, eight, file_ninth, five, four, itself_marked, no_draft_left, no_naming_left, no_two_left, no_unnamed_left, once_marked, one_gone}
 
 -- what is settled by flags in headers, or by nothing
 abbrev IsByFlags : UnderWay → Type 0
@@ -29,7 +29,7 @@ IsByFlags (Building page) = ⊤
 IsByFlags (Erasing sector page) = ⊥
 IsByFlags (Unnamed log) = ⊤
 IsByFlags (Naming page) = ⊤
-IsByFlags (Replacing old new) = ⊤
+IsByFlags (Replacing dropped kept) = ⊤
 
 -- an isolated page is not zero
 isolated_zeros : (image : List ℕ) (page : ℕ) → unit_at image page ≡ Some Isolated → page_bytes image page ≡ replicate 256 0 → ⊥
@@ -51,7 +51,7 @@ module _ (image : List ℕ) (sectors : ℕ) (size : length image ≡ 4096 * sect
   marked (Erasing sector page) by f = absurd by
   marked (Unnamed log) by f = once_marked image log 4 four
   marked (Naming page) by f = once_marked image page 8 eight
-  marked (Replacing old new) by f = gone_marked image old new f
+  marked (Replacing dropped kept) by f = once_marked image dropped.page 4 four
 
   kept_flags : (w : UnderWay) → IsByFlags w → IsFound image w → IsSettled (settled image w) → KeepsSettled (settled image w)
   kept_flags w by f s = kept (settled image w) (marked w by f).long s
@@ -65,28 +65,26 @@ module _ (image : List ℕ) (sectors : ℕ) (size : length image ≡ 4096 * sect
 
   -- AN EXTENT UNDER CONSTRUCTION
 
-  two_or_six : (m : ℕ) → IsObsoleted 2 m → (m ≡ 2) ⊎ (m ≡ 6)
-  two_or_six m (inl e) = inl e
-  two_or_six m (inr (inl e)) = inr e
-  two_or_six m (inr (inr e)) = inr e
+  no_draft : (n : ℕ) → IsFileFlags n → n ≡ 2 → ⊥
+  no_draft n (inl e) is = absurd (omega (arith, e, is))
+  no_draft n (inr e) is = absurd (omega (arith, e, is))
 
-  draft_left : (p : ℕ) → IsActiveAt image p 2 → (w : UnderWay) → IsByFlags w → IsFound image w → ((ninth (settled image w) p ≡ 2) ⊎ (ninth (settled image w) p ≡ 6)) ⊎ (settled image w ≡ flagged image p 5)
-  draft_left p a Nothing by f = inl (inl (ninth_at p 2 a))
+  draft_left : (p : ℕ) → IsActiveAt image p 2 → (w : UnderWay) → IsByFlags w → IsFound image w → (ninth (settled image w) p ≡ 2) ⊎ (settled image w ≡ flagged image p 5)
+  draft_left p a Nothing by f = inl (ninth_at p 2 a)
   draft_left p a (Beginning q) by f = absurd by
   draft_left p a (Building q) by f = ⊎_elim
       (λ (same : q ≡ p). inr (ap (λ x. flagged image x 5) same))
-      (λ (other : q ≢ p). inl (inl (other_ninth image q 5 p (λ e. other (sym e)) ∙ ninth_at p 2 a)))
+      (λ (other : q ≢ p). inl (other_ninth image q 5 p (λ e. other (sym e)) ∙ ninth_at p 2 a))
       (cases_eq q p)
   draft_left p a (Erasing sector page) by f = absurd by
-  draft_left p a (Unnamed log) by f = inl (inl (other_ninth image log 4 p (apart p log 2 19 a f (λ e. absurd (omega (arith, e)))) ∙ ninth_at p 2 a))
-  draft_left p a (Naming q) by f = inl (inl (other_ninth image q 8 p (apart p q 2 3 a f (λ e. absurd (omega (arith, e)))) ∙ ninth_at p 2 a))
-  draft_left p a (Replacing old new) by f =
-      let g = active_ninth image p 2 a in
-      inl (two_or_six (ninth (obsoleted image old.page (log_of old.header)) p) (subst (λ n. IsObsoleted n (ninth (obsoleted image old.page (log_of old.header)) p)) g.2 (obsoleted_ninth image old.page p (log_of old.header) g.1)))
+  draft_left p a (Unnamed log) by f = inl (other_ninth image log 4 p (apart p log 2 19 a f (λ e. absurd (omega (arith, e)))) ∙ ninth_at p 2 a)
+  draft_left p a (Naming q) by f = inl (other_ninth image q 8 p (apart p q 2 3 a f (λ e. absurd (omega (arith, e)))) ∙ ninth_at p 2 a)
+  draft_left p a (Replacing dropped kept) by f =
+      inl (other_ninth image dropped.page 4 p (λ e. no_draft (ninth image dropped.page) (file_ninth image dropped f.dropped_there).1 (ap (ninth image) (sym e) ∙ ninth_at p 2 a)) ∙ ninth_at p 2 a)
 
   one_draft : (p : ℕ) → IsActiveAt image p 2 → (w : UnderWay) → IsByFlags w → IsFound image w → IsSettled (settled image w) → flagged image p 5 ≡ settled image w
   one_draft p a w by f s = ⊎_elim
-      (λ (left : (ninth (settled image w) p ≡ 2) ⊎ (ninth (settled image w) p ≡ 6)). absurd (no_draft_left image (settled image w) (marked w by f) (kept_flags w by f s) p a left))
+      (λ (left : ninth (settled image w) p ≡ 2). absurd (no_draft_left image (settled image w) (marked w by f) (kept_flags w by f s) p a left))
       (λ (same : settled image w ≡ flagged image p 5). sym same)
       (draft_left p a w by f)
 
@@ -97,11 +95,11 @@ module _ (image : List ℕ) (sectors : ℕ) (size : length image ≡ 4096 * sect
   log_no_file n (inr e) is = absurd (omega (arith, e, is))
 
   -- files keep their flags, so two of one name stay
-  two_stay : (new : List ℕ) (old other : Placed) → IsReplacing image old other → IsMarked image new → KeepsSettled new → ((p : ℕ) → IsFileFlags (ninth image p) → ninth new p ≡ ninth image p) → ⊥
-  two_stay new old other r m k same =
-      let a = file_ninth image old r.old_there in
-      let b = file_ninth image other r.new_there in
-      no_two_left image old other r new m k (subst IsFileFlags (sym (same old.page a.1)) a.1) (subst IsFileFlags (sym (same other.page b.1)) b.1)
+  two_stay : (new : List ℕ) (dropped other : Placed) → IsReplacing image dropped other → IsMarked image new → KeepsSettled new → ((p : ℕ) → IsFileFlags (ninth image p) → ninth new p ≡ ninth image p) → ⊥
+  two_stay new dropped other r m k same =
+      let a = file_ninth image dropped r.dropped_there in
+      let b = file_ninth image other r.kept_there in
+      no_two_left image dropped other r new m k (subst IsFileFlags (sym (same dropped.page a.1)) a.1) (subst IsFileFlags (sym (same other.page b.1)) b.1)
 
   -- A LOG THAT NO FILE NAMES
 
@@ -126,7 +124,7 @@ module _ (image : List ℕ) (sectors : ℕ) (size : length image ≡ 4096 * sect
   one_unnamed l a s (Naming q) by f z =
       absurd (no_naming_left image q f (kept (flagged image q 8) (flagged_long q 8) z) (flagged image l 4) (once_marked image l 4 four) (kept (flagged image l 4) (flagged_long l 4) s)
       (other_ninth image l 4 q (apart q l 3 19 f a (λ e. absurd (omega (arith, e)))) ∙ ninth_at q 3 f))
-  one_unnamed l a s (Replacing old new) by f z = absurd (two_stay (flagged image l 4) old new f (once_marked image l 4 four) (kept (flagged image l 4) (flagged_long l 4) s)
+  one_unnamed l a s (Replacing dropped other) by f z = absurd (two_stay (flagged image l 4) dropped other f (once_marked image l 4 four) (kept (flagged image l 4) (flagged_long l 4) s)
       (λ p flags. other_ninth image l 4 p (λ e. log_no_file (ninth image p) flags (ap (ninth image) e ∙ ninth_at l 19 a))))
 
   -- A FILE THAT WAS BEING GIVEN ITS LOG
@@ -153,25 +151,24 @@ module _ (image : List ℕ) (sectors : ℕ) (size : length image ≡ 4096 * sect
       (λ (other : q ≢ p). absurd (no_naming_left image q a (kept (flagged image q 8) (flagged_long q 8) s) (flagged image p 8) (once_marked image p 8 eight) (kept (flagged image p 8) (flagged_long p 8) z)
       (other_ninth image p 8 q other ∙ ninth_at q 3 a)))
       (cases_eq q p)
-  one_naming q a s (Replacing old new) by f z =
+  one_naming q a s (Replacing dropped other) by f z =
       let g = active_ninth image q 3 a in
-      let first = file_ninth image old f.old_there in
-      let second = file_ninth image new f.new_there in
-      absurd (no_two_left image old new f (flagged image q 8) (once_marked image q 8 eight) (kept (flagged image q 8) (flagged_long q 8) s)
-      (named_file_flags q old.page g.1 first.1) (named_file_flags q new.page g.1 second.1))
+      let first = file_ninth image dropped f.dropped_there in
+      let second = file_ninth image other f.kept_there in
+      absurd (no_two_left image dropped other f (flagged image q 8) (once_marked image q 8 eight) (kept (flagged image q 8) (flagged_long q 8) s)
+      (named_file_flags q dropped.page g.1 first.1) (named_file_flags q other.page g.1 second.1))
 
   -- A FILE IN TWO EXTENTS
 
-  one_replacing : (old new : Placed) → IsReplacing image old new → IsSettled (obsoleted image old.page (log_of old.header)) → (w : UnderWay) → IsByFlags w → IsFound image w → IsSettled (settled image w)
-      → obsoleted image old.page (log_of old.header) ≡ settled image w
-  one_replacing old new r s Nothing by f z = absurd (two_stay image old new r (itself_marked image) (kept image refl z) (λ p flags. refl))
-  one_replacing old new r s (Beginning p) by f z = absurd by
-  one_replacing old new r s (Building p) by f z = sym (one_draft p f (Replacing old new) tt r s)
-  one_replacing old new r s (Erasing sector page) by f z = absurd by
-  one_replacing old new r s (Unnamed l) by f z = sym (one_unnamed l f z (Replacing old new) tt r s)
-  one_replacing old new r s (Naming q) by f z = sym (one_naming q f z (Replacing old new) tt r s)
-  one_replacing old new r s (Replacing other newer) by f z =
-      one_gone image old new other newer r f (kept (obsoleted image old.page (log_of old.header)) (gone_marked image old new r).long s) (kept (obsoleted image other.page (log_of other.header)) (gone_marked image other newer f).long z)
+  one_replacing : (dropped other : Placed) → IsReplacing image dropped other → IsSettled (flagged image dropped.page 4) → (w : UnderWay) → IsByFlags w → IsFound image w → IsSettled (settled image w) → flagged image dropped.page 4 ≡ settled image w
+  one_replacing dropped other r s Nothing by f z = absurd (two_stay image dropped other r (itself_marked image) (kept image refl z) (λ p flags. refl))
+  one_replacing dropped other r s (Beginning p) by f z = absurd by
+  one_replacing dropped other r s (Building p) by f z = sym (one_draft p f (Replacing dropped other) tt r s)
+  one_replacing dropped other r s (Erasing sector page) by f z = absurd by
+  one_replacing dropped other r s (Unnamed l) by f z = sym (one_unnamed l f z (Replacing dropped other) tt r s)
+  one_replacing dropped other r s (Naming q) by f z = sym (one_naming q f z (Replacing dropped other) tt r s)
+  one_replacing dropped other r s (Replacing gone stays) by f z = ap (λ p. flagged image p 4)
+      (one_gone image dropped other gone stays r f (kept (flagged image dropped.page 4) (flagged_long dropped.page 4) s) (kept (flagged image gone.page 4) (flagged_long gone.page 4) z))
 
   one_nothing : IsSettled image → (w : UnderWay) → IsByFlags w → IsFound image w → IsSettled (settled image w) → image ≡ settled image w
   one_nothing s Nothing by f z = refl
@@ -180,7 +177,7 @@ module _ (image : List ℕ) (sectors : ℕ) (size : length image ≡ 4096 * sect
   one_nothing s (Erasing sector page) by f z = absurd by
   one_nothing s (Unnamed l) by f z = sym (one_unnamed l f z Nothing tt tt s)
   one_nothing s (Naming q) by f z = sym (one_naming q f z Nothing tt tt s)
-  one_nothing s (Replacing old new) by f z = sym (one_replacing old new f z Nothing tt tt s)
+  one_nothing s (Replacing dropped other) by f z = sym (one_replacing dropped other f z Nothing tt tt s)
 
   -- A HEADER THAT IS TORN
 
@@ -199,7 +196,7 @@ module _ (image : List ℕ) (sectors : ℕ) (size : length image ≡ 4096 * sect
       by_page (Erasing sector p) by f none = absurd by
       by_page (Unnamed l) by f none = none (other_page image l 4 page (not_torn l 19 f))
       by_page (Naming p) by f none = none (other_page image p 8 page (not_torn p 3 f))
-      by_page (Replacing old new) by f none = torn_alone image page t (kept (flagged image page 34) (flagged_long page 34) s) old new f
+      by_page (Replacing dropped other) by f none = torn_alone image page t (kept (flagged image page 34) (flagged_long page 34) s) dropped other f
 
   below_torn : (page other : ℕ) → IsTornHeader image page → IsSettled (flagged image other 34) → page < other → ⊥
   below_torn page other t s less =
@@ -287,7 +284,7 @@ module _ (image : List ℕ) (sectors : ℕ) (size : length image ≡ 4096 * sect
   of_flags v by same f s (Erasing sector page) g z = ap files_of (sym (same_flags sector page g z v by f s))
   of_flags v by same f s (Unnamed log) g z = ap files_of (same (Unnamed log) tt g z)
   of_flags v by same f s (Naming page) g z = ap files_of (same (Naming page) tt g z)
-  of_flags v by same f s (Replacing old new) g z = ap files_of (same (Replacing old new) tt g z)
+  of_flags v by same f s (Replacing dropped other) g z = ap files_of (same (Replacing dropped other) tt g z)
 
   of_torn : (page : ℕ) → IsTornHeader image page → IsSettled (flagged image page 34) → (w : UnderWay) → IsFound image w → IsSettled (settled image w) → files_of (flagged image page 34) ≡ files_of (settled image w)
   of_torn page t s Nothing g z = absurd (torn_flags page t s Nothing tt g z)
@@ -296,7 +293,7 @@ module _ (image : List ℕ) (sectors : ℕ) (size : length image ≡ 4096 * sect
   of_torn page t s (Erasing sector p) g z = sym (erased_torn sector p page g t z s)
   of_torn page t s (Unnamed log) g z = absurd (torn_flags page t s (Unnamed log) tt g z)
   of_torn page t s (Naming p) g z = absurd (torn_flags page t s (Naming p) tt g z)
-  of_torn page t s (Replacing old new) g z = absurd (torn_flags page t s (Replacing old new) tt g z)
+  of_torn page t s (Replacing dropped other) g z = absurd (torn_flags page t s (Replacing dropped other) tt g z)
 
   of_erased : (sector page : ℕ) → IsErasing image sector page → IsSettled (cleared sector) → (w : UnderWay) → IsFound image w → IsSettled (settled image w) → files_of (cleared sector) ≡ files_of (settled image w)
   of_erased sector page e s Nothing g z = ap files_of (same_flags sector page e s Nothing tt g z)
@@ -305,7 +302,7 @@ module _ (image : List ℕ) (sectors : ℕ) (size : length image ≡ 4096 * sect
   of_erased sector page e s (Erasing other behind) g z = ap files_of (one_erased sector page other behind e g s z)
   of_erased sector page e s (Unnamed log) g z = ap files_of (same_flags sector page e s (Unnamed log) tt g z)
   of_erased sector page e s (Naming p) g z = ap files_of (same_flags sector page e s (Naming p) tt g z)
-  of_erased sector page e s (Replacing old new) g z = ap files_of (same_flags sector page e s (Replacing old new) tt g z)
+  of_erased sector page e s (Replacing dropped other) g z = ap files_of (same_flags sector page e s (Replacing dropped other) tt g z)
 
   same_files : (v w : UnderWay) → IsFound image v → IsSettled (settled image v) → IsFound image w → IsSettled (settled image w) → files_of (settled image v) ≡ files_of (settled image w)
   same_files Nothing w f s g z = of_flags Nothing tt (one_nothing s) f s w g z
@@ -314,7 +311,7 @@ module _ (image : List ℕ) (sectors : ℕ) (size : length image ≡ 4096 * sect
   same_files (Erasing sector page) w f s g z = of_erased sector page f s w g z
   same_files (Unnamed log) w f s g z = of_flags (Unnamed log) tt (one_unnamed log f s) f s w g z
   same_files (Naming page) w f s g z = of_flags (Naming page) tt (one_naming page f s) f s w g z
-  same_files (Replacing old new) w f s g z = of_flags (Replacing old new) tt (one_replacing old new f s) f s w g z
+  same_files (Replacing dropped other) w f s g z = of_flags (Replacing dropped other) tt (one_replacing dropped other f s) f s w g z
 
 -- an image of whole sectors mends to one list of files
 pub one_list : (image : List ℕ) (files others : List NamedFile) (sectors : ℕ) → length image ≡ 4096 * sectors → MendsTo image files → MendsTo image others → files ≡ others

@@ -1,33 +1,29 @@
 -- The rules that an image breaks first where flags are missing in headers: the units tile it.
-use Rattle.std.proofs.Common.{◌≡◌, ◌≢◌, ◌⊎◌, inl, inr, ⊎_elim, ℕ, zero, suc, ◌+◌, ◌-◌, ◌*◌, ◌/◌, ◌%◌, ◌<◌, ◌≤◌, Bool, true, false, not, ◌&&◌, ◌||◌, ◌==◌, nat_lt, List, [], ◌∷◌, length, drop, get_or, Option, Some, None, if◌then◌else◌, refl, ap, sym, subst, ◌∙◌, arith, bit_or}
+use Rattle.std.proofs.Common.{◌≡◌, ◌≢◌, ◌⊎◌, inl, inr, ⊎_elim, ℕ, zero, suc, ◌+◌, ◌*◌, ◌/◌, ◌<◌, ◌≤◌, Bool, false, not, ◌&&◌, ◌||◌, ◌==◌, nat_lt, List, [], ◌∷◌, length, drop, get_or, Option, Some, None, if◌then◌else◌, refl, ap, sym, subst, ◌∙◌, arith}
 use Rattle.std.specs.Option.{option_or}
 use Rattle.std.specs.List.{Contains}
-use Rattle.std.proofs.lemmas.Bool.{cases_eq, cases_lt}
+use Rattle.std.proofs.lemmas.Bool.{cases_eq}
 use Rattle.afl_base.specs.Image.{page_bytes}
-use Rattle.afl_base.specs.declared.ids.PageId.{PageId}
 use Rattle.coffee_header.specs.declared.header.Header.{Header}
-use Rattle.coffee_layout.specs.Files.{Placed, extents, files_in, is_file, log_of, logs_in}
-use Rattle.coffee_layout.specs.Rules.{broken_files, broken_image, first_page, first_repeated, first_some}
-use Rattle.coffee_layout.specs.Tiling.{IsTiled, KeepRules, at_place, broken_at, broken_from, broken_suffix, broken_tiling, broken_unit, nowhere, units_from, units_of}
+use Rattle.coffee_layout.specs.Files.{Placed, files_in}
+use Rattle.coffee_layout.specs.Rules.{broken_files, broken_image, first_page, first_repeated}
+use Rattle.coffee_layout.specs.Tiling.{KeepRules, at_place, broken_at, broken_from, broken_suffix, broken_tiling, broken_unit, nowhere, units_from, units_of}
 use Rattle.coffee_layout.specs.Units.{is_free, pages_of, size_of, total, unit_at}
 use Rattle.coffee_layout.specs.declared.unit.BadImage.{BadImage}
 use Rattle.coffee_layout.specs.declared.unit.Unit.{Unit}
-use Rattle.coffee_layout.specs.declared.unit.Unit.TheVariants.{Extent, Free, Isolated}
+use Rattle.coffee_layout.specs.declared.unit.Unit.TheVariants.{Extent}
 use Rattle.coffee_layout.proofs.Frames.{unit_at_same}
-use Rattle.coffee_layout.proofs.Judging.{place_none}
-use Rattle.coffee_layout.proofs.Tests.{eq_false, none_else, or_none}
+use Rattle.coffee_layout.proofs.Tests.{eq_false, none_else}
 use Rattle.coffee_layout.proofs.Tilings.{kept_inside, kept_some, units_end, units_step}
-use Rattle.coffee_merge.specs.Flags.{flagged, obsoleted}
+use Rattle.coffee_merge.specs.Flags.{flagged}
 use Rattle.coffee_merge.proofs.SoundEntries.{IsAt, among_at, at_same, one_place}
-use Rattle.coffee_merge.proofs.SoundRules.{file_flags_are}
 use Rattle.coffee_merge.proofs.SoundUnits.{Among}
 use Rattle.padded.specs.Zeros.{is_zeros}
-use Rattle.padded.proofs.Facts.{by_truth, eq_true, lt_false, yes_no}
-use Rattle.coffee_cuts.specs.Cuts.{IsActiveAt, IsReplacing, IsSettled}
-use Rattle.coffee_cuts.proofs.MarkedPages.{IsMarkedAt, marked_alike, ninth, other_page, stands_at, turned_size, units_alike}
-use Rattle.coffee_cuts.proofs.Reached.{same_unit}
-use Rattle.coffee_cuts.proofs.SettledRules.{KeepsSettled, begins, settled_kept}
-use Rattle.coffee_cuts.proofs.TwoMarks.{IsFileFlags, IsMarked, active_ninth, file_begins, file_ninth, gone_marked}
+use Rattle.padded.proofs.Facts.{lt_false}
+use Rattle.coffee_cuts.specs.Cuts.{IsReplacing, IsSettled}
+use Rattle.coffee_cuts.proofs.MarkedPages.{marked_alike, ninth, other_page, stands_at, units_alike}
+use Rattle.coffee_cuts.proofs.SettledRules.{KeepsSettled, settled_kept}
+use Rattle.coffee_cuts.proofs.TwoMarks.{IsMarked, file_begins, four, once_marked}
 use Rattle.coffee_cuts.proofs.FirstRules.{broken_same, kept_first}
 
 -- ---- A WALK
@@ -143,53 +139,34 @@ among_contains [] i f less e = absurd (omega (arith, less))
 among_contains (x ∷ xs) zero f less e = inl e
 among_contains (x ∷ xs) (suc i) f less e = inr (among_contains xs i f (omega (arith, less)) e)
 
-module _ (image : List ℕ) (sectors : ℕ) (size : length image ≡ 4096 * sectors) (old new : Placed) (r : IsReplacing image old new)
-    (s : IsSettled (obsoleted image old.page (log_of old.header))) where
+module _ (image : List ℕ) (sectors : ℕ) (size : length image ≡ 4096 * sectors) (dropped kept : Placed) (r : IsReplacing image dropped kept)
+    (s : IsSettled (flagged image dropped.page 4)) where
   abbrev gone : List ℕ
-  gone = obsoleted image old.page (log_of old.header)
+  gone = flagged image dropped.page 4
 
-  file_known : (h : Header) → unit_at image old.page ≡ Some (Extent h) → h ≡ old.header → (h.flags ≡ 2 → ⊥)
-  file_known h there same two =
-      let f = file_ninth image old r.old_there in
-      not_two old.header.flags (file_flags_are old (file_begins image old r.old_there).1) (ap (λ (x : Header). x.flags) (sym same) ∙ two)
-    where
-      not_two : (n : ℕ) → (n ≡ 3) ⊎ (n ≡ 11) → n ≡ 2 → ⊥
-      not_two n (inl a) b = absurd (omega (arith, a, b))
-      not_two n (inr a) b = absurd (omega (arith, a, b))
-
-  known_pages : (log : Option PageId) → log ≡ log_of old.header → (p : ℕ) → IsKnown image (obsoleted image old.page log) p
-  known_pages log is p = ⊎_elim
-      (λ (here : p ≡ old.page).
-      let there = (stands_at image old.page (Extent old.header) (file_begins image old r.old_there).0).1 in
-      inr (old.header, ap (unit_at image) here ∙ there, file_known old.header there refl))
-      (λ (other : p ≢ old.page). by_log log is other)
-      (cases_eq p old.page)
-    where
-      by_log : (log : Option PageId) → log ≡ log_of old.header → p ≢ old.page → IsKnown image (obsoleted image old.page log) p
-      by_log None is other = inl (other_page image old.page 4 p other)
-      by_log (Some l) is other = ⊎_elim
-          (λ (here : p ≡ l.0).
-          let a = r.logged l (sym is) in
-          let b = (active_ninth image l.0 19 a).0 in
-          inr (a.header, ap (unit_at image) here ∙ (stands_at image l.0 (Extent a.header) b).1, λ two. let n = a.flags_are in absurd (omega (arith, two, n))))
-          (λ (out : p ≢ l.0). inl (other_page (flagged image old.page 4) l.0 4 p out ∙ other_page image old.page 4 p other))
-          (cases_eq p l.0)
+  known_pages : (p : ℕ) → IsKnown image gone p
+  known_pages p = ⊎_elim
+      (λ (here : p ≡ dropped.page).
+      let there = (stands_at image dropped.page (Extent dropped.header) (file_begins image dropped r.dropped_there).0).1 in
+      let plain = r.plain in
+      inr (dropped.header, ap (unit_at image) here ∙ there, λ two. absurd (omega (arith, plain, two))))
+      (λ (other : p ≢ dropped.page). inl (other_page image dropped.page 4 p other))
+      (cases_eq p dropped.page)
 
   unbroken : broken_tiling nowhere image ≡ None
   unbroken =
-      let m = gone_marked image old new r in
+      let m : IsMarked image gone = once_marked image dropped.page 4 four in
       let long = m.long in
-      let k = settled_kept gone (omega (arith, long, size)) s in
-      marked_unbroken image gone m k (known_pages (log_of old.header) refl)
+      marked_unbroken image gone m (settled_kept gone (omega (arith, long, size)) s) known_pages
 
   -- two files of one name are found
   repeated : first_repeated [] (files_in (units_of image)) ≡ None → ⊥
   repeated none =
       let fs : List Placed = files_in (units_of image) in
-      let i = among_at fs old (contained fs old r.old_there) in
-      let j = among_at fs new (contained fs new r.new_there) in
-      let same : i.0 ≡ j.0 = one_place fs i.0 j.0 old new none i.1 j.1 r.one_name in
-      r.apart (ap (λ (p : Placed). p.page) (at_same fs j.0 old new (subst (λ n. IsAt fs n old) same i.1) j.1))
+      let i = among_at fs dropped (contained fs dropped r.dropped_there) in
+      let j = among_at fs kept (contained fs kept r.kept_there) in
+      let same : i.0 ≡ j.0 = one_place fs i.0 j.0 dropped kept none i.1 j.1 r.one_name in
+      r.apart (ap (λ (p : Placed). p.page) (at_same fs j.0 dropped kept (subst (λ n. IsAt fs n dropped) same i.1) j.1))
     where
       contained : (fs : List Placed) (f : Placed) → Contains fs f → Among f fs
       contained fs f c = among_contains fs c.0 f c.1 c.2

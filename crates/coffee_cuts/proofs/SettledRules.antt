@@ -23,9 +23,10 @@ use Rattle.coffee_merge.proofs.SoundRules.{HasLog, KeepsRules, extent_in, file_l
 use Rattle.coffee_merge.proofs.SoundUnits.{Among, among_filter, any_among, begun_extent, filter_among, none_failing}
 use Rattle.padded.specs.Zeros.{is_zeros}
 use Rattle.padded.proofs.Facts.{eq_true, true_eq}
-use Rattle.coffee_cuts.specs.Cuts.{HasTornRecord, IsSettled, next_record}
+use Rattle.coffee_cuts.specs.Cuts.{HasTornRecord, IsSettled, next_record, without_two}
 use Rattle.coffee_cuts.proofs.MarkedPages.{head_byte, stands_at}
 use Rattle.coffee_cuts.proofs.Reached.{IsReached, kept_at, same_unit, sizes_reach}
+use Rattle.coffee_cuts.proofs.Superseding.{rules, tiled, units}
 
 -- the units of an image tile it, and keep the rules there or where a torn record is zero
 pub record KeepsSettled (image : List ℕ) : Type 0 where
@@ -198,7 +199,8 @@ module _ (image : List ℕ) (whole : 256 * pages_of image ≡ length image) (t :
 
 pub settled_kept : (image : List ℕ) → 256 * pages_of image ≡ length image → IsSettled image → KeepsSettled image
 settled_kept image whole (inl sound) = let r = (sound_rules image whole sound).0 in record { base = image; rules = r; tiled = r.tiled }
-settled_kept image whole (inr torn) = torn_kept image whole torn
+settled_kept image whole (inr (inl torn)) = torn_kept image whole torn
+settled_kept image whole (inr (inr s)) = record { base = without_two image s.log.0 s.file.used; rules = subst (KeepsRules (without_two image s.log.0 s.file.used)) (sym (units image whole s)) (rules image whole s); tiled = subst (IsTiled nowhere image) (sym (units image whole s)) (tiled image whole s) }
 
 -- ---- THE RULES, OF WHAT BEGINS AT A PAGE
 

@@ -1,16 +1,17 @@
 -- Where a search by the first broken rule looks: at what was under way, whatever that was.
-use Rattle.std.proofs.Common.{◌≡◌, ◌⊎◌, inl, inr, ⊎_elim, ℕ, ◌*◌, ◌/◌, ◌≤◌, List, length, Option, Some, None, refl, ap, sym, subst, ◌∙◌, arith}
+use Rattle.std.proofs.Common.{◌≡◌, inl, inr, ⊎_elim, ℕ, ◌*◌, ◌/◌, List, length, Some, None, ap, sym, subst, ◌∙◌, arith}
 use Rattle.afl_base.specs.Image.{zeros_at}
 use Rattle.coffee_layout.specs.Files.{NamedFile}
 use Rattle.coffee_layout.specs.Rules.{broken_image}
 use Rattle.coffee_layout.specs.declared.unit.BadImage.{BadImage}
-use Rattle.coffee_cuts.specs.Cuts.{HasTornRecord, IsFound, IsSettled, MendsTo, UnderWay, Nothing, Beginning, Building, Erasing, Unnamed, Naming, Replacing, settled}
+use Rattle.coffee_cuts.specs.Cuts.{IsFound, IsSettled, MendsTo, UnderWay, Nothing, Beginning, Building, Erasing, Unnamed, Naming, Replacing, settled}
 use Rattle.coffee_cuts.specs.Shown.{IsTornAlone, Shows}
 use Rattle.coffee_cuts.proofs.ErasedSectors.{BreaksIn, erasings_break_in_their_sector}
 use Rattle.coffee_cuts.proofs.FirstRules.{drafts_break_rule_1, torn_headers_break_rule_1}
-use Rattle.coffee_cuts.proofs.LoneLogs.{BreaksLog, lone_logs_break_rule_7_or_9}
+use Rattle.coffee_cuts.proofs.LoneLogs.{lone_logs_break_rule_7_or_9}
 use Rattle.coffee_cuts.proofs.NamedLogs.{namings_break_rule_8}
-use Rattle.coffee_cuts.proofs.Replaced.{BreaksNames, replacings_break_names}
+use Rattle.coffee_cuts.proofs.Replaced.{replacings_break_names}
+use Rattle.coffee_cuts.proofs.SupersedingRule.{breaks_at_log}
 use Rattle.coffee_cuts.proofs.TornRule.{torn_records_break_rule_12}
 
 one_bad : (a b : BadImage) → Some a ≡ Some b → b ≡ a
@@ -22,12 +23,22 @@ not_none b e = cc
 module _ (image : List ℕ) (sectors : ℕ) (size : length image ≡ 4096 * sectors) (bad : BadImage) (broken : broken_image image ≡ Some bad) where
   alone : IsSettled image → IsTornAlone image bad
   alone (inl sound) = not_none bad (sym sound ∙ broken)
-  alone (inr torn) = ⊎_elim
+  alone (inr (inl torn)) = ⊎_elim
       (λ (none : broken_image image ≡ None). not_none bad (sym none ∙ broken))
       (λ (twelve : broken_image image ≡ Some (record { rule = 12; place = torn.log })).
       let same = one_bad (record { rule = 12; place = torn.log }) bad (sym twelve ∙ broken) in
-      (ap (λ (b : BadImage). b.rule) same, inr torn))
+      (inl (ap (λ (b : BadImage). b.rule) same), inr (inl torn)))
       (torn_records_break_rule_12 image sectors size torn)
+  alone (inr (inr s)) = ⊎_elim
+      (λ (none : broken_image image ≡ None). not_none bad (sym none ∙ broken))
+      (⊎_elim
+      (λ (twelve : broken_image image ≡ Some (record { rule = 12; place = s.log.0 })).
+      let same = one_bad (record { rule = 12; place = s.log.0 }) bad (sym twelve ∙ broken) in
+      (inl (ap (λ (b : BadImage). b.rule) same), inr (inr s)))
+      (λ (ten : broken_image image ≡ Some (record { rule = 10; place = s.log.0 })).
+      let same = one_bad (record { rule = 10; place = s.log.0 }) bad (sym ten ∙ broken) in
+      (inr (ap (λ (b : BadImage). b.rule) same), inr (inr s))))
+      (breaks_at_log image sectors size s)
 
   by_case : (w : UnderWay) → IsFound image w → IsSettled (settled image w) → Shows image bad w
   by_case Nothing f s = alone s
@@ -48,8 +59,8 @@ module _ (image : List ℕ) (sectors : ℕ) (size : length image ≡ 4096 * sect
       let rule : bad.rule ≡ b.rule = ap (λ (x : BadImage). x.rule) is in
       (⊎_elim (λ (e : b.rule ≡ 7). inl (rule ∙ e)) (λ (e : b.rule ≡ 9). inr (rule ∙ e)) b.which, ap (λ (x : BadImage). x.place) is)
   by_case (Naming page) f s = one_bad (record { rule = 8; place = page }) bad (sym (namings_break_rule_8 image page sectors size f s) ∙ broken)
-  by_case (Replacing old new) f s =
-      let b = replacings_break_names image sectors size old new f s in
+  by_case (Replacing dropped kept) f s =
+      let b = replacings_break_names image sectors size dropped kept f s in
       let is : bad ≡ record { rule = b.rule; place = b.place } = one_bad (record { rule = b.rule; place = b.place }) bad (sym b.is ∙ broken) in
       let rule : bad.rule ≡ b.rule = ap (λ (x : BadImage). x.rule) is in
       ⊎_elim (λ (e : b.rule ≡ 5). inl (rule ∙ e)) (λ (e : b.rule ≡ 6). inr (rule ∙ e)) b.which

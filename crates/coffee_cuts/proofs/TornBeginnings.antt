@@ -88,11 +88,12 @@ module _ (image : List ℕ) (page : ℕ) (t : IsTornHeader image page) where
       r.begun ∙ sym r.there ∙ unit_at_same image isolated p (other_page image page 34 p there) ∙ at.1
 
   -- so no two files have one name
-  pub torn_alone : KeepsSettled isolated → (old new : Placed) → IsReplacing image old new → ⊥
-  torn_alone k old new r =
-      let f = file_begins image old r.old_there in
-      let g = file_begins image new r.new_there in
-      r.apart (one_named isolated k old.page new.page old.header new.header (begins_isolated k old.page old.header f.0) (begins_isolated k new.page new.header g.0) f.1 g.1 r.one_name)
+  pub torn_alone : KeepsSettled isolated → (dropped kept : Placed) → IsReplacing image dropped kept → ⊥
+  torn_alone k dropped kept r =
+      let f = file_begins image dropped r.dropped_there in
+      let g = file_begins image kept r.kept_there in
+      r.apart (one_named isolated k dropped.page kept.page dropped.header kept.header
+      (begins_isolated k dropped.page dropped.header f.0) (begins_isolated k kept.page kept.header g.0) f.1 g.1 r.one_name)
 
 -- ---- A SECTOR
 

@@ -8,21 +8,17 @@ use Rattle.coffee_header.specs.declared.header.Header.{Header}
 use Rattle.coffee_layout.specs.FileBytes.{extent_place, file_byte, file_bytes, last_in, place_or, record_place, table_of, used_in}
 use Rattle.coffee_layout.specs.Files.{NamedFile, Placed, entry_of, files_in, files_of, kind_of, named_file}
 use Rattle.coffee_layout.specs.Tiling.{nowhere, units_of, IsTiled}
-use Rattle.coffee_layout.specs.Units.{pages_of, unit_at, unit_of, is_active_flags, total}
+use Rattle.coffee_layout.specs.Units.{pages_of, unit_at, unit_of, total}
 use Rattle.coffee_layout.specs.declared.file.FileAt.{FileAt}
 use Rattle.coffee_layout.specs.declared.unit.Unit.TheVariants.{Extent}
 use Rattle.coffee_layout.proofs.Frames.{unit_at_same, content_stays}
 use Rattle.coffee_layout.proofs.Spelling.{spells_file, spelt_file}
 use Rattle.coffee_layout.proofs.Tilings.{units_tiled}
 use Rattle.coffee_log.proofs.LastRecords.{last_found}
-use Rattle.coffee_layout.specs.Marks.{IsCramped}
-use Rattle.std.specs.List.{Contains}
-use Rattle.coffee_merge.specs.Begun.{active_at, unit_begun}
-use Rattle.coffee_merge.specs.TableFiles.{SameFiles}
-use Rattle.coffee_merge.proofs.SoundImages.{held_sound}
-use Rattle.coffee_merge.specs.Holding.{Entries, HoldsTable, IsIn, file_header, log_header, Stays}
+use Rattle.coffee_merge.specs.Begun.{unit_begun}
+use Rattle.coffee_merge.specs.Holding.{Entries, HoldsTable, IsIn, file_header, log_header}
 use Rattle.coffee_merge.proofs.Begun.{active_begun, begun_apart, begun_split}
-use Rattle.coffee_merge.proofs.Holdings.{file_unit, holds_tiled, log_unit, one_header as same_header, holds_pages}
+use Rattle.coffee_merge.proofs.Holdings.{file_unit, log_unit, one_header as same_header, holds_pages}
 use Rattle.coffee_merge.proofs.SoundEntries.{among_at, entry_at, table_by}
 use Rattle.coffee_merge.proofs.SoundLogs.{used_is}
 use Rattle.coffee_merge.proofs.SoundRules.{KeepsRules, log_fields, sound_rules}
@@ -30,10 +26,7 @@ use Rattle.coffee_merge.proofs.SoundTables.{sound_held}
 use Rattle.coffee_merge.proofs.SoundUnits.{Among, begun_extent}
 use Rattle.coffee_cuts.proofs.Reached.{IsReached, begun_at, reach}
 use Rattle.padded.proofs.Facts.{eq_true}
-use Rattle.coffee_merge.proofs.Retired.{file_not_log, inactive}
-use Rattle.coffee_layout.specs.Rules.{broken_image}
-use Rattle.coffee_merge.proofs.MovedFiles.{stays_files}
-use Rattle.coffee_merge.proofs.Kept.{KeepsBody, bodies_kept, body_stored, holds_units}
+use Rattle.coffee_merge.proofs.Retired.{file_not_log}
 use Rattle.coffee_cuts.specs.Cuts.{IsActiveAt, next_record}
 use Rattle.coffee_layout.specs.Rules.{broken_image as broken_whole}
 

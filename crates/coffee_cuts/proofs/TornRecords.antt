@@ -299,7 +299,7 @@ module _ (whole new : List ℕ) (table : Entries) (i : ℕ) (e : FileAt) (at : �
         record {
           size = size zeroed alike zeroed_long;
           used = used zeroed alike zeroed_long;
-          settles = inr torn_record;
+          settles = inr (inl torn_record);
           each = λ k f there. subst (Contains (files_of new)) (sym (same_file k f there)) (subst (λ fs. Contains fs (file_of zeroed f)) (sym files_same) (entry_file zeroed all k f holds there));
           only = λ f has. let r = file_entry zeroed all f holds (subst (λ fs. Contains fs f) files_same has) in (r.0, r.1, r.2, r.3 ∙ sym (same_file r.0 r.1 r.2));
           put = record {

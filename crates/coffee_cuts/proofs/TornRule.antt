@@ -1,5 +1,5 @@
 -- An image with a torn record breaks no rule before 12, and that at the record's log.
-use Rattle.std.proofs.Common.{◌≡◌, ◌≢◌, ◌⊎◌, inl, inr, ⊎_elim, ℕ, ◌+◌, ◌*◌, ◌/◌, ◌<◌, ◌≤◌, Bool, true, false, not, ◌&&◌, ◌||◌, ◌==◌, nat_le, List, [], ◌∷◌, length, drop, get_or, Option, Some, None, if◌then◌else◌, refl, ap, sym, subst, ◌∙◌, arith}
+use Rattle.std.proofs.Common.{◌≡◌, ◌≢◌, ◌⊎◌, inl, inr, ⊎_elim, ℕ, ◌+◌, ◌*◌, ◌<◌, ◌≤◌, Bool, true, not, ◌&&◌, ◌||◌, ◌==◌, nat_le, List, [], ◌∷◌, length, get_or, Option, Some, None, if◌then◌else◌, refl, ap, sym, ◌∙◌, arith}
 use Rattle.std.specs.Prelude.{slice_range}
 use Rattle.std.specs.List.{list_any}
 use Rattle.std.specs.Option.{option_or}
@@ -10,16 +10,12 @@ use Rattle.afl_base.proofs.Images.{length_zeros_at, range_same}
 use Rattle.coffee_header.specs.declared.header.Header.{Header}
 use Rattle.coffee_layout.specs.FileBytes.{table_of, used_in}
 use Rattle.coffee_layout.specs.Files.{Placed, bytes_of, entry_of, extents, files_in, is_log, logs_in}
-use Rattle.coffee_layout.specs.Rules.{broken_files, broken_image, first_failing, first_page, first_repeated, fits_its_file, has_few_pages, has_fields, has_regions_inside, is_clear, is_front_filled, names_its_log, names_log}
+use Rattle.coffee_layout.specs.Rules.{broken_files, broken_image, first_failing, fits_its_file, has_few_pages, has_fields, has_regions_inside, is_clear, is_front_filled, names_its_log, names_log}
 use Rattle.coffee_layout.specs.Tiling.{at_place, broken_tiling, nowhere, units_of}
 use Rattle.coffee_layout.specs.Units.{pages_of}
-use Rattle.coffee_layout.specs.declared.unit.BadImage.{BadImage}
-use Rattle.coffee_layout.specs.declared.unit.Unit.TheVariants.{Extent}
 use Rattle.coffee_layout.proofs.Tilings.{unbroken_tiled}
-use Rattle.coffee_merge.specs.Begun.{unit_begun}
-use Rattle.coffee_merge.specs.Holding.{Entries, HoldsTable}
+use Rattle.coffee_merge.specs.Holding.{HoldsTable}
 use Rattle.coffee_merge.proofs.SoundEntries.{among_at, entry_at, table_by}
-use Rattle.coffee_merge.proofs.SoundLogs.{used_few}
 use Rattle.coffee_merge.proofs.SoundRules.{KeepsRules, extent_in, log_fields, sound_rules}
 use Rattle.coffee_merge.proofs.SoundTables.{sound_held}
 use Rattle.coffee_merge.proofs.SoundUnits.{Among, failing_none, filter_among}
@@ -31,7 +27,7 @@ use Rattle.coffee_cuts.proofs.NamedLogs.{few_enough}
 use Rattle.coffee_cuts.proofs.TornLogs.{IsTornAt, away, begun, high, low, rest, rules, torn_bytes, units, whole_blank}
 
 -- where all others pass, none fails or this one
-fails_at_most : (test : Placed → Bool) (es : List Placed) (page : ℕ) → ((x : Placed) → Among x es → x.page ≢ page → test x ≡ true) → (first_failing test es ≡ None) ⊎ (first_failing test es ≡ Some page)
+pub fails_at_most : (test : Placed → Bool) (es : List Placed) (page : ℕ) → ((x : Placed) → Among x es → x.page ≢ page → test x ≡ true) → (first_failing test es ≡ None) ⊎ (first_failing test es ≡ Some page)
 fails_at_most test [] page pass = inl refl
 fails_at_most test (e ∷ es) page pass = by_truth (test e)
     (λ good. ⊎_elim
@@ -44,14 +40,14 @@ fails_at_most test (e ∷ es) page pass = by_truth (test e)
     (cases_eq e.page page))
 
 -- the files of a log, where it and their bytes are the same
-fits_same : (a b : List ℕ) (fs : List Placed) (page : ℕ) → ((f : Placed) → Among f fs → bytes_of a f ≡ bytes_of b f) → table_of a page ≡ table_of b page → fits_its_file a fs page ≡ fits_its_file b fs page
+pub fits_same : (a b : List ℕ) (fs : List Placed) (page : ℕ) → ((f : Placed) → Among f fs → bytes_of a f ≡ bytes_of b f) → table_of a page ≡ table_of b page → fits_its_file a fs page ≡ fits_its_file b fs page
 fits_same a b [] page same table = refl
 fits_same a b (f ∷ fs) page same table =
     ap (λ n. if names_log page f then has_regions_inside f.header.max_pages (length n) (table_of a page) else fits_its_file a fs page) (same f (inl refl))
     ∙ ap (λ t. if names_log page f then has_regions_inside f.header.max_pages (length (bytes_of b f)) t else fits_its_file a fs page) table
     ∙ ap (λ o. if names_log page f then has_regions_inside f.header.max_pages (length (bytes_of b f)) (table_of b page) else o) (fits_same a b fs page (λ g x. same g (inr x)) table)
 
-by_twelve : (e f g h i j k l m : Option ℕ) (page : ℕ) → e ≡ None → f ≡ None → g ≡ None → h ≡ None → i ≡ None → j ≡ None → k ≡ None → (l ≡ None) ⊎ (l ≡ Some page) → m ≡ None
+pub by_twelve : (e f g h i j k l m : Option ℕ) (page : ℕ) → e ≡ None → f ≡ None → g ≡ None → h ≡ None → i ≡ None → j ≡ None → k ≡ None → (l ≡ None) ⊎ (l ≡ Some page) → m ≡ None
     → (option_or (at_place 5 e) (option_or (at_place 6 f) (option_or (at_place 7 g) (option_or (at_place 8 h) (option_or (at_place 9 i) (option_or (at_place 10 j) (option_or (at_place 11 k) (option_or (at_place 12 l) (option_or (at_place 13 m) None)))))))) ≡ None)
     ⊎ (option_or (at_place 5 e) (option_or (at_place 6 f) (option_or (at_place 7 g) (option_or (at_place 8 h) (option_or (at_place 9 i) (option_or (at_place 10 j) (option_or (at_place 11 k) (option_or (at_place 12 l) (option_or (at_place 13 m) None)))))))) ≡ Some (record { rule = 12; place = page }))
 by_twelve e f g h i j k l m page n5 n6 n7 n8 n9 n10 n11 (inl n12) n13 = inl (rw (n5, n6, n7, n8, n9, n10, n11, n12, n13) refl)
@@ -134,7 +130,7 @@ module _ (image : List ℕ) (sectors : ℕ) (size : length image ≡ 4096 * sect
       (failing_none (has_few_pages image) files (λ f a. ap (λ bytes. not (f.header.kind == 0) || nat_le f.header.max_pages (2 * fit (length bytes))) (file_same f a) ∙ few f a))
 
   unbroken : broken_tiling nowhere image ≡ None
-  unbroken = unbroken_tiled nowhere image (units_of image) (settled_kept image whole (inr t)).tiled
+  unbroken = unbroken_tiled nowhere image (units_of image) (settled_kept image whole (inr (inl t))).tiled
 
   pub torn_records_break_rule_12 : (broken_image image ≡ None) ⊎ (broken_image image ≡ Some (record { rule = 12; place = t.log }))
   unfolding broken_image

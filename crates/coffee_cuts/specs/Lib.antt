@@ -1,3 +1,4 @@
 pub mod Cuts
 pub mod Mending
 pub mod Shown
+pub mod Superseded

@@ -4,10 +4,11 @@
 
 mod torn;
 
-ghost use Rattle.std.specs.Prelude.{◌≡◌, ◌*◌, ℕ, List, None, Some, length};
-ghost use Rattle.coffee_cuts.specs.Cuts.{MendsTo};
+ghost use Rattle.std.specs.Prelude.{◌≡◌, ◌*◌, ◌≤◌, ℕ, List, None, Some, length};
+ghost use Rattle.coffee_cuts.specs.Cuts.{IsSuperseding, MendsTo};
 ghost use Rattle.coffee_cuts.specs.Mending.{MendsToTable};
 ghost use Rattle.coffee_cuts.specs.Shown.{Shows};
+ghost use Rattle.coffee_cuts.specs.Superseded.{GoesOn, IsSuperseded};
 ghost use Rattle.coffee_layout.specs.Files.{NamedFile, files_of};
 ghost use Rattle.coffee_layout.specs.Rules.{broken_image};
 ghost use Rattle.coffee_layout.specs.declared.file.FileAt.{FileAt};
@@ -43,4 +44,22 @@ pub fn cut_images_mend_to_one_list()
 pub fn first_rules_show_what_was_under_way()
     ensures { (image : List ℕ) (files : List NamedFile) (bad : BadImage) (sectors : ℕ) → length image ≡ 4096 * sectors
         → broken_image image ≡ Some bad → (m : MendsTo image files) → Shows image bad m.under_way }
+{}
+
+/// A torn record is superseded by the one behind it: once that holds the first region of the log's file, and both have
+/// its number, the image is sound, and has the files that it mended to.
+pub fn torn_records_are_superseded()
+    ensures sound { (image new : List ℕ) (sectors : ℕ) → length image ≡ 4096 * sectors → (t : IsSuperseding image)
+        → 1 ≤ t.file.size → IsSuperseded image new t → broken_image new ≡ None }
+    ensures files { (image new : List ℕ) (sectors : ℕ) → length image ≡ 4096 * sectors → (t : IsSuperseding image)
+        → 1 ≤ t.file.size → IsSuperseded image new t → files_of new ≡ files_of image }
+{}
+
+/// Where the repair that supersedes a torn record is cut on its way, the image is still one in which it is being superseded,
+/// and mends to the same files.
+pub fn supersedings_go_on()
+    ensures still { (image new : List ℕ) (sectors : ℕ) → length image ≡ 4096 * sectors → (t : IsSuperseding image)
+        → GoesOn image new t → (s : IsSuperseding new) × (s.log ≡ t.log) × (s.file ≡ t.file) }
+    ensures files { (image new : List ℕ) (sectors : ℕ) → length image ≡ 4096 * sectors → (t : IsSuperseding image)
+        → GoesOn image new t → files_of new ≡ files_of image }
 {}

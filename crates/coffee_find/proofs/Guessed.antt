@@ -27,7 +27,7 @@ misses_nothing image page found is (was_building at) g m = let e = g.0 in cc
 misses_nothing image page found is (was_erasing sector at) g m = let e = g.0 in cc
 misses_nothing image page found is (was_unnamed log) g m = let e = g.0 in cc
 misses_nothing image page found is (was_naming at) g m = let e = g.0 in cc
-misses_nothing image page found is (was_replacing old new) g m = cc
+misses_nothing image page found is (was_replacing dropped kept) g m = cc
 
 -- ---- BY A HEADER
 
@@ -49,7 +49,7 @@ headed image page (was_building at) g f = record { flags = 2; which = inl refl; 
 headed image page (was_erasing sector at) g f = let e = g.0 in cc
 headed image page (was_unnamed log) g f = record { flags = 19; which = inr (inr refl); active = subst (λ p. IsActiveAt image p 19) g.1 f; is = ap was_unnamed g.1 }
 headed image page (was_naming at) g f = record { flags = 3; which = inr (inl refl); active = subst (λ p. IsActiveAt image p 3) g.1 f; is = ap was_naming g.1 }
-headed image page (was_replacing old new) g f = cc
+headed image page (was_replacing dropped kept) g f = cc
 
 one_header : (g h : ExtentHeader) → Some g ≡ Some h → g ≡ h
 one_header g h e = cc
@@ -89,7 +89,7 @@ torn_way image page found is none (was_building at) g m = let e = g.0 in cc
 torn_way image page found is none (was_erasing sector at) g m = let e = g.0 in cc
 torn_way image page found is none (was_unnamed log) g m = let e = g.0 in cc
 torn_way image page found is none (was_naming at) g m = let e = g.0 in cc
-torn_way image page found is none (was_replacing old new) g m = cc
+torn_way image page found is none (was_replacing dropped kept) g m = cc
 
 pub misses_no_torn_header : {E : Type 0} (image : List ℕ) (page : PageId) (r : Result (Option UnderWay) E) → IfOk r (λ o. IfSome o (λ u. u ≡ Beginning page))
     → IfOk r (λ o. IfNone o (HasPage (length image) page.0 → IsTornHeader image page.0 → ⊥)) → IfOk r (MissesNoWay image TornHeader page.0)
@@ -106,7 +106,7 @@ erased_as image page (was_building at) g = let e = g.0 in cc
 erased_as image page (was_erasing sector at) g = ap (λ s. zeros_at image (4096 * s) 4096) g.1
 erased_as image page (was_unnamed log) g = let e = g.0 in cc
 erased_as image page (was_naming at) g = let e = g.0 in cc
-erased_as image page (was_replacing old new) g = cc
+erased_as image page (was_replacing dropped kept) g = cc
 
 -- and the page at which it is left
 erased_found : (image : List ℕ) (page : ℕ) (way : CutWay) → IsGuess Erased page way → IsFound image way → (p : ℕ) × IsErasing image (page / 16) p
@@ -116,7 +116,7 @@ erased_found image page (was_building at) g f = let e = g.0 in cc
 erased_found image page (was_erasing sector at) g f = (at, subst (λ s. IsErasing image s at) g.1 f)
 erased_found image page (was_unnamed log) g f = let e = g.0 in cc
 erased_found image page (was_naming at) g f = let e = g.0 in cc
-erased_found image page (was_replacing old new) g f = cc
+erased_found image page (was_replacing dropped kept) g f = cc
 
 pub misses_no_sector : {E : Type 0} (image : List ℕ) (page : ℕ) (r : Result (Option UnderWay) E) → IfOk r (λ o. IfSome o (λ u. IsGuess Erased page (meant u)))
     → IfOk r (λ o. IfNone o ((p : ℕ) → IsErasing image (page / 16) p → IsSettled (zeros_at image (4096 * (page / 16)) 4096) → ⊥)) → IfOk r (MissesNoWay image Erased page)
@@ -130,17 +130,17 @@ means_settles : (image : List ℕ) (way : CutWay) (found : Option UnderWay) → 
 means_settles image way None e = e
 means_settles image way (Some u) e = ap (settled image) e
 
-replaced_way : (image : List ℕ) (page : ℕ) (found : Option UnderWay) → ((old new : Placed) → MendsBy image (was_replacing old new) → Means (was_replacing old new) found) → MissesNoWay image Replaced page found
+replaced_way : (image : List ℕ) (page : ℕ) (found : Option UnderWay) → ((dropped kept : Placed) → MendsBy image (was_replacing dropped kept) → Means (was_replacing dropped kept) found) → MissesNoWay image Replaced page found
 replaced_way image page found all was_nothing g m = cc
 replaced_way image page found all (was_beginning at) g m = let e = g.0 in cc
 replaced_way image page found all (was_building at) g m = let e = g.0 in cc
 replaced_way image page found all (was_erasing sector at) g m = let e = g.0 in cc
 replaced_way image page found all (was_unnamed log) g m = let e = g.0 in cc
 replaced_way image page found all (was_naming at) g m = let e = g.0 in cc
-replaced_way image page found all (was_replacing old new) g m = means_settles image (was_replacing old new) found (all old new m)
+replaced_way image page found all (was_replacing dropped kept) g m = means_settles image (was_replacing dropped kept) found (all dropped kept m)
 
 pub misses_no_twins : {E : Type 0} (image : List ℕ) (page : ℕ) (r : Result (Option UnderWay) E)
-    → IfOk r (λ o. (old new : Placed) → MendsBy image (was_replacing old new) → Means (was_replacing old new) o) → IfOk r (MissesNoWay image Replaced page)
+    → IfOk r (λ o. (dropped kept : Placed) → MendsBy image (was_replacing dropped kept) → Means (was_replacing dropped kept) o) → IfOk r (MissesNoWay image Replaced page)
 misses_no_twins image page (Ok o) all = replaced_way image page o all
 misses_no_twins image page (Err e) all = tt
 

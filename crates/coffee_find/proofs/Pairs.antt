@@ -1,35 +1,27 @@
 -- Where an image mends by a file that was being replaced, its two extents are the one pair of files of one name.
 use Rattle.std.proofs.Common.{◌≡◌, ◌≢◌, ◌⊎◌, inl, inr, ⊎_elim, ℕ, ◌+◌, ◌-◌, ◌*◌, ◌≤◌, ◌<◌, Bool, true, false, ◌||◌, ◌==◌, nat_lt, List, [], ◌∷◌, length, Option, Some, None, refl, ap, sym, subst, ◌∙◌, arith}
-use Rattle.std.specs.Prelude.{IfNone, IfOk, IfSome, Result, Ok, Err}
+use Rattle.std.specs.Prelude.{IfNone, IfSome}
 use Rattle.std.specs.Int.{from_bool}
 use Rattle.std.specs.List.{Contains, filter}
 use Rattle.std.proofs.lemmas.Bool.{cases_eq, cases_lt}
-use Rattle.afl_base.specs.declared.ids.PageId.{PageId}
 use Rattle.coffee_header.specs.declared.header.Header.{Header}
-use Rattle.coffee_layout.specs.Files.{Placed, extents, files_in, is_file, log_of}
+use Rattle.coffee_layout.specs.Files.{Placed, extents, files_in, is_file}
 use Rattle.coffee_layout.specs.Tiling.{units_of}
 use Rattle.coffee_layout.specs.declared.unit.Unit.TheVariants.{Extent}
 use Rattle.coffee_merge.specs.Begun.{unit_begun}
-use Rattle.coffee_merge.specs.Flags.{flagged, obsoleted}
-use Rattle.coffee_merge.specs.Holding.{log_number}
-use Rattle.coffee_merge.proofs.SoundEntries.{log_back}
+use Rattle.coffee_merge.specs.Flags.{flagged}
 use Rattle.coffee_merge.proofs.SoundUnits.{Among, among_filter, begun_extent}
-use Rattle.coffee_layout.proofs.Tests.{eq_false}
 use Rattle.padded.proofs.Facts.{filter_few, lt_false, lt_true, true_or_false, yes_no}
-use Rattle.coffee_cuts.specs.Cuts.{Replacing as was_replacing}
+use Rattle.coffee_cuts.specs.Cuts.{IsFound, IsOver, Replacing as was_replacing}
 use Rattle.coffee_cuts.proofs.MarkedPages.{ninth, other_ninth}
 use Rattle.coffee_cuts.proofs.SettledRules.{KeepsSettled, begins, one_named, placed_at, settled_kept}
-use Rattle.coffee_cuts.proofs.TwoMarks.{IsFileFlags, IsMarked, active_ninth, file_begins, file_ninth, gone_marked, log_page_is, turned_begins}
+use Rattle.coffee_cuts.proofs.TwoMarks.{IsFileFlags, IsMarked, file_begins, file_ninth, four, once_marked, turned_begins}
 use Rattle.coffee_find.specs.Found.{meant, placed_of}
 use Rattle.coffee_find.specs.Guesses.{Means, MendsBy}
-use Rattle.coffee_find.specs.Search.{AreTwins, HasNoFile, NamesActiveLog}
+use Rattle.coffee_find.specs.Search.{AreTwins, HasNoFile}
 use Rattle.coffee_find.specs.declared.trouble.PlacedFile.{PlacedFile}
 use Rattle.coffee_find.specs.declared.trouble.UnderWay.{UnderWay}
-use Rattle.coffee_find.specs.declared.trouble.UnderWay.TheVariants.{Nothing, Beginning, Building, Erasing, Unnamed, Naming, Replacing}
-
--- a file that has a log names it
-pub some_log : (h : Header) → h.log_page ≢ 0 → log_of h ≡ Some (record { 0 = h.log_page - 1 })
-some_log h some = rw (eq_false h.log_page 0 some) refl
+use Rattle.coffee_find.specs.declared.trouble.UnderWay.TheVariants.{Replacing}
 
 -- ---- LISTS OF FILES
 
@@ -84,182 +76,160 @@ file_test : (n : ℕ) → IsFileFlags n → (n == 3 || n == 11) ≡ true
 file_test n (inl a) = ap (λ x. x == 3 || x == 11) a
 file_test n (inr a) = ap (λ x. x == 3 || x == 11) a
 
-no_log_flags : (n : ℕ) → IsFileFlags n → n ≡ 19 → ⊥
-no_log_flags n (inl a) b = absurd (omega (arith, a, b))
-no_log_flags n (inr a) b = absurd (omega (arith, a, b))
-
-module _ (image : List ℕ) (pages : ℕ) (size : length image ≡ 256 * pages) (old new : Placed) (m : MendsBy image (was_replacing old new)) where
+module _ (image : List ℕ) (pages : ℕ) (size : length image ≡ 256 * pages) (dropped kept : Placed) (m : MendsBy image (was_replacing dropped kept)) where
   abbrev gone : List ℕ
-  gone = obsoleted image old.page (log_of old.header)
+  gone = flagged image dropped.page 4
 
   marked : IsMarked image gone
-  marked = gone_marked image old new m.found
+  marked = once_marked image dropped.page 4 four
 
-  kept : KeepsSettled gone
-  kept = let long = marked.long in settled_kept gone (omega (arith, long, size)) m.settles
-
-  -- a file but the old one keeps its flags
-  stays : (f : Placed) → Contains (files_in (units_of image)) f → f.page ≢ old.page → ninth gone f.page ≡ ninth image f.page
-  stays f there other = by_log (log_of old.header) refl
-    where
-      by_log : (o : Option PageId) → log_of old.header ≡ o → ninth (obsoleted image old.page o) f.page ≡ ninth image f.page
-      by_log None is = other_ninth image old.page 4 f.page other
-      by_log (Some l) is = ⊎_elim
-          (λ (here : f.page ≡ l.0). absurd (no_log_flags (ninth image f.page) (file_ninth image f there).1
-          (ap (ninth image) here ∙ (active_ninth image l.0 19 (m.found.logged l is)).2)))
-          (λ (out : f.page ≢ l.0). other_ninth (flagged image old.page 4) l.0 4 f.page out ∙ other_ninth image old.page 4 f.page other)
-          (cases_eq f.page l.0)
+  rules_kept : KeepsSettled gone
+  rules_kept = let long = marked.long in settled_kept gone (omega (arith, long, size)) m.settles
 
   abbrev left : Placed → Placed
   left f = placed_at f.page (record f.header { flags = ninth gone f.page })
 
-  -- so it is left as a file
-  file_left : (f : Placed) → Contains (files_in (units_of image)) f → f.page ≢ old.page → begins gone f.page (left f).header × (is_file (left f) ≡ true)
+  -- a file but the one that is dropped is left as a file
+  file_left : (f : Placed) → Contains (files_in (units_of image)) f → f.page ≢ dropped.page → begins gone f.page (left f).header × (is_file (left f) ≡ true)
   file_left f there other = (
-    turned_begins image gone marked kept f.page f.header (file_begins image f there).0,
-    file_test (ninth gone f.page) (subst IsFileFlags (sym (stays f there other)) (file_ninth image f there).1),
+    turned_begins image gone marked rules_kept f.page f.header (file_begins image f there).0,
+    file_test (ninth gone f.page) (subst IsFileFlags (sym (other_ninth image dropped.page 4 f.page other)) (file_ninth image f there).1),
   )
 
-  one_old : (f g : Placed) → Contains (files_in (units_of image)) f → Contains (files_in (units_of image)) g → f.page ≢ g.page → f.header.name ≡ g.header.name → (f.page ≡ old.page) ⊎ (g.page ≡ old.page)
-  one_old f g a b apart named = ⊎_elim
-      (λ (here : f.page ≡ old.page). inl here)
-      (λ (out : f.page ≢ old.page). ⊎_elim
-      (λ (here : g.page ≡ old.page). inr here)
-      (λ (gone_too : g.page ≢ old.page).
+  one_dropped : (f g : Placed) → Contains (files_in (units_of image)) f → Contains (files_in (units_of image)) g → f.page ≢ g.page → f.header.name ≡ g.header.name → (f.page ≡ dropped.page) ⊎ (g.page ≡ dropped.page)
+  one_dropped f g a b apart named = ⊎_elim
+      (λ (here : f.page ≡ dropped.page). inl here)
+      (λ (out : f.page ≢ dropped.page). ⊎_elim
+      (λ (here : g.page ≡ dropped.page). inr here)
+      (λ (out_too : g.page ≢ dropped.page).
       let first = file_left f a out in
-      let second = file_left g b gone_too in
-      absurd (apart (one_named gone kept f.page g.page (left f).header (left g).header first.0 second.0 first.1 second.1 named)))
-      (cases_eq g.page old.page))
-      (cases_eq f.page old.page)
+      let second = file_left g b out_too in
+      absurd (apart (one_named gone rules_kept f.page g.page (left f).header (left g).header first.0 second.0 first.1 second.1 named)))
+      (cases_eq g.page dropped.page))
+      (cases_eq f.page dropped.page)
 
-  -- the other file of its name is the new one
-  is_new : (f : Placed) → Contains (files_in (units_of image)) f → f.page ≢ old.page → f.header.name ≡ old.header.name → f ≡ new
-  is_new f a other named = ⊎_elim
-      (λ (here : f.page ≡ new.page). one_file image f new a m.found.new_there here)
-      (λ (out : f.page ≢ new.page). ⊎_elim
-      (λ (here : f.page ≡ old.page). absurd (other here))
-      (λ (here : new.page ≡ old.page). absurd (m.found.apart (sym here)))
-      (one_old f new a m.found.new_there out (named ∙ m.found.one_name)))
-      (cases_eq f.page new.page)
+  -- the other file of its name is the one that is kept
+  is_kept : (f : Placed) → Contains (files_in (units_of image)) f → f.page ≢ dropped.page → f.header.name ≡ dropped.header.name → f ≡ kept
+  is_kept f a other named = ⊎_elim
+      (λ (here : f.page ≡ kept.page). one_file image f kept a m.found.kept_there here)
+      (λ (out : f.page ≢ kept.page). ⊎_elim
+      (λ (here : f.page ≡ dropped.page). absurd (other here))
+      (λ (here : kept.page ≡ dropped.page). absurd (m.found.apart (sym here)))
+      (one_dropped f kept a m.found.kept_there out (named ∙ m.found.one_name)))
+      (cases_eq f.page kept.page)
 
   pub twins_are : (f g : Placed) → Contains (files_in (units_of image)) f → Contains (files_in (units_of image)) g → f.page < g.page → f.header.name ≡ g.header.name
-      → (f ≡ old) × (g ≡ new) ⊎ (f ≡ new) × (g ≡ old)
+      → (f ≡ dropped) × (g ≡ kept) ⊎ (f ≡ kept) × (g ≡ dropped)
   twins_are f g a b less named = ⊎_elim
-      (λ (here : f.page ≡ old.page).
-      let same : f ≡ old = one_file image f old a m.found.old_there here in
-      inl (same, is_new g b (λ e. absurd (omega (arith, e, here, less))) (sym named ∙ ap (λ (p : Placed). p.header.name) same)))
-      (λ (here : g.page ≡ old.page).
-      let same : g ≡ old = one_file image g old b m.found.old_there here in
-      inr (is_new f a (λ e. absurd (omega (arith, e, here, less))) (named ∙ ap (λ (p : Placed). p.header.name) same), same))
-      (one_old f g a b (λ e. absurd (omega (arith, e, less))) named)
+      (λ (here : f.page ≡ dropped.page).
+      let same : f ≡ dropped = one_file image f dropped a m.found.dropped_there here in
+      inl (same, is_kept g b (λ e. absurd (omega (arith, e, here, less))) (sym named ∙ ap (λ (p : Placed). p.header.name) same)))
+      (λ (here : g.page ≡ dropped.page).
+      let same : g ≡ dropped = one_file image g dropped b m.found.dropped_there here in
+      inr (is_kept f a (λ e. absurd (omega (arith, e, here, less))) (named ∙ ap (λ (p : Placed). p.header.name) same), same))
+      (one_dropped f g a b (λ e. absurd (omega (arith, e, less))) named)
 
-  -- the log of the old one lies inside the flash
-  log_inside : old.header.log_page ≤ pages
-  log_inside = by_log (log_of old.header) refl
-    where
-      by_log : (o : Option PageId) → log_of old.header ≡ o → old.header.log_page ≤ pages
-      by_log None is = let none : old.header.log_page ≡ 0 = sym (log_back old.header) ∙ ap log_number is in omega (arith, none)
-      by_log (Some l) is =
-          let inside = (active_ninth image l.0 19 (m.found.logged l is)).1 in
-          let page = log_page_is old.header l is in
-          omega (arith, inside, page, size)
+  -- the two are found, in their order
+  means_these : (f g : PlacedFile) (o : Option UnderWay) → placed_of f ≡ dropped → placed_of g ≡ kept → IfSome o (λ u. u ≡ Replacing f g) → IfNone o (f.header.flags ≡ 3 → f.header.log_page ≢ 0)
+      → Means (was_replacing dropped kept) o
+  means_these f g None is was some lacks =
+      absurd (lacks (ap (λ (p : Placed). p.header.flags) is ∙ m.found.plain) (ap (λ (p : Placed). p.header.log_page) is ∙ m.found.no_log))
+  means_these f g (Some u) is was some lacks = ap meant some ∙ ap (λ p. was_replacing p (placed_of g)) is ∙ ap (was_replacing dropped) was
 
-  -- ---- WHICH IS THE OLD ONE
-
-  -- the first file has no log: it is the new one
-  pub first_new : (f g : PlacedFile) (o : Option UnderWay) → AreTwins image f g → f.header.log_page ≡ 0
-      → IfSome o (λ u. u ≡ Replacing g f) → IfNone o (f.header.log_page ≡ 0 → pages < g.header.log_page) → Means (was_replacing old new) o
-  first_new f g o twins none some lacks = ⊎_elim
-      (λ (s : (placed_of f ≡ old) × (placed_of g ≡ new)).
-      let low = m.found.before (sym (ap (λ (p : Placed). p.header.log_page) s.0) ∙ none) in
-      let here : f.page.0 ≡ old.page = ap (λ (p : Placed). p.page) s.0 in
-      let there : g.page.0 ≡ new.page = ap (λ (p : Placed). p.page) s.1 in
-      let order = twins.order in
-      absurd (omega (arith, low, here, there, order)))
-      (λ (s : (placed_of f ≡ new) × (placed_of g ≡ old)). by_result o s.0 s.1 some lacks)
+  -- the second one has no log, and the first has one, or more pages
+  pub first_kept : (f g : PlacedFile) (o : Option UnderWay) → AreTwins image f g → (g.header.log_page ≡ 0) × (f.header.log_page ≡ 0 → g.header.max_pages < f.header.max_pages)
+      → IfSome o (λ u. u ≡ Replacing g f) → IfNone o (g.header.flags ≡ 3 → g.header.log_page ≢ 0) → Means (was_replacing dropped kept) o
+  first_kept f g o twins more some lacks = ⊎_elim
+      (λ (s : (placed_of f ≡ dropped) × (placed_of g ≡ kept)).
+      let less = more.1 (ap (λ (p : Placed). p.header.log_page) s.0 ∙ m.found.no_log) in
+      absurd (under (placed_of f) (placed_of g) less
+      (subst (λ p. IsOver p (placed_of f)) (sym s.1) (subst (IsOver kept) (sym s.0) (m.found.over (sym (ap (λ (p : Placed). p.header.log_page) s.1) ∙ more.0))))))
+      (λ (s : (placed_of f ≡ kept) × (placed_of g ≡ dropped)). means_these g f o s.1 s.0 some lacks)
       (twins_are (placed_of f) (placed_of g) twins.first_there twins.second_there twins.order twins.one_name)
     where
-      by_result : (o : Option UnderWay) → placed_of f ≡ new → placed_of g ≡ old → IfSome o (λ u. u ≡ Replacing g f) → IfNone o (f.header.log_page ≡ 0 → pages < g.header.log_page) → Means (was_replacing old new) o
-      by_result None is was some lacks =
-          let far = lacks none in
-          let inside = log_inside in
-          let same : g.header.log_page ≡ old.header.log_page = ap (λ (p : Placed). p.header.log_page) was in
-          absurd (omega (arith, far, inside, same))
-      by_result (Some u) is was some lacks = ap meant some ∙ ap (λ p. was_replacing p (placed_of f)) was ∙ ap (was_replacing old) is
+      under : (p q : Placed) → q.header.max_pages < p.header.max_pages → IsOver q p → ⊥
+      under p q less (inl more) = absurd (omega (arith, less, more))
+      under p q less (inr same) = let e = same.0 in absurd (omega (arith, less, e))
 
-  -- it has one: it is the old one
-  pub first_old : (f g : PlacedFile) (o : Option UnderWay) → AreTwins image f g → f.header.log_page ≢ 0
-      → IfSome o (λ u. u ≡ Replacing f g) → IfNone o (g.header.log_page ≡ 0 → pages < f.header.log_page) → Means (was_replacing old new) o
-  first_old f g o twins logged some lacks = ⊎_elim
-      (λ (s : (placed_of f ≡ old) × (placed_of g ≡ new)). by_result o s.0 s.1 some lacks)
-      (λ (s : (placed_of f ≡ new) × (placed_of g ≡ old)). absurd (logged (ap (λ (p : Placed). p.header.log_page) s.0 ∙ m.found.new_has_none)))
+  -- it is not so
+  pub second_kept : (f g : PlacedFile) (o : Option UnderWay) → AreTwins image f g → (g.header.log_page ≡ 0 → (f.header.log_page ≡ 0) × (f.header.max_pages ≤ g.header.max_pages))
+      → IfSome o (λ u. u ≡ Replacing f g) → IfNone o (f.header.flags ≡ 3 → f.header.log_page ≢ 0) → Means (was_replacing dropped kept) o
+  second_kept f g o twins more some lacks = ⊎_elim
+      (λ (s : (placed_of f ≡ dropped) × (placed_of g ≡ kept)). means_these f g o s.0 s.1 some lacks)
+      (λ (s : (placed_of f ≡ kept) × (placed_of g ≡ dropped)).
+      let facts = more (ap (λ (p : Placed). p.header.log_page) s.1 ∙ m.found.no_log) in
+      absurd (under (placed_of f) (placed_of g) twins.order facts.1
+      (subst (IsOver (placed_of f)) (sym s.1) (subst (λ p. IsOver p dropped) (sym s.0) (m.found.over (sym (ap (λ (p : Placed). p.header.log_page) s.0) ∙ facts.0))))))
       (twins_are (placed_of f) (placed_of g) twins.first_there twins.second_there twins.order twins.one_name)
     where
-      by_result : (o : Option UnderWay) → placed_of f ≡ old → placed_of g ≡ new → IfSome o (λ u. u ≡ Replacing f g) → IfNone o (g.header.log_page ≡ 0 → pages < f.header.log_page) → Means (was_replacing old new) o
-      by_result None was is some lacks =
-          let far = lacks (ap (λ (p : Placed). p.header.log_page) is ∙ m.found.new_has_none) in
-          let inside = log_inside in
-          let same : f.header.log_page ≡ old.header.log_page = ap (λ (p : Placed). p.header.log_page) was in
-          absurd (omega (arith, far, inside, same))
-      by_result (Some u) was is some lacks = ap meant some ∙ ap (λ p. was_replacing p (placed_of g)) was ∙ ap (was_replacing old) is
+      under : (p q : Placed) → p.page < q.page → p.header.max_pages ≤ q.header.max_pages → IsOver p q → ⊥
+      under p q order few (inl more) = absurd (omega (arith, few, more))
+      under p q order few (inr same) = let e = same.1 in absurd (omega (arith, order, e))
 
-  -- what was found names an active log
-  names_log : (u : UnderWay) → meant u ≡ was_replacing old new → NamesActiveLog image u
-  names_log Nothing e = cc
-  names_log (Beginning page) e = cc
-  names_log (Building page) e = cc
-  names_log (Erasing sector page) e = cc
-  names_log (Unnamed log) e = cc
-  names_log (Naming page) e = cc
-  names_log (Replacing o n) e = let same : placed_of o ≡ old = cc in λ l is. m.found.logged l (sym (ap (λ (p : Placed). log_of p.header) same) ∙ is)
+-- what is found of two files is a file that was being replaced
+pub twins_found : (image : List ℕ) (f g : PlacedFile) (u : UnderWay) → AreTwins image f g → u ≡ Replacing f g → (f.header.flags ≡ 3) × (f.header.log_page ≡ 0)
+    → (g.header.log_page ≡ 0 → (f.header.log_page ≡ 0) × (f.header.max_pages ≤ g.header.max_pages)) → IsFound image (meant u)
+twins_found image f g u twins is plain more = subst (λ w. IsFound image (meant w)) (sym is) (record {
+  dropped_there = twins.first_there;
+  kept_there = twins.second_there;
+  apart = λ e. let order = twins.order in absurd (omega (arith, e, order));
+  one_name = twins.one_name;
+  plain = plain.0;
+  no_log = plain.1;
+  over = λ none. by_pages (more none).1;
+})
+  where
+    by_pages : f.header.max_pages ≤ g.header.max_pages → IsOver (placed_of g) (placed_of f)
+    by_pages few = ⊎_elim
+        (λ (less : f.header.max_pages < g.header.max_pages). inl less)
+        (λ (most : g.header.max_pages ≤ f.header.max_pages). inr (omega (arith, few, most), twins.order))
+        (cases_lt f.header.max_pages g.header.max_pages)
 
-  logged_means : {E : Type 0} (found : Option UnderWay) (r : Result (Option UnderWay) E) → Means (was_replacing old new) found → IfOk r (λ o. IfSome o (λ u. found ≡ Some u))
-      → IfOk r (λ o. IfNone o (IfSome found (λ u. NamesActiveLog image u → ⊥))) → IfOk r (Means (was_replacing old new))
-  logged_means found (Ok (Some u)) means same none = subst (Means (was_replacing old new)) same means
-  logged_means None (Ok None) means same none = means
-  logged_means (Some u) (Ok None) means same none = none (names_log u means)
-  logged_means found (Err e) means same none = tt
-
-pub all_mean : {E : Type 0} (image : List ℕ) (pages : ℕ) → length image ≡ 256 * pages → (found : Option UnderWay) (r : Result (Option UnderWay) E)
-    → ((old new : Placed) → MendsBy image (was_replacing old new) → Means (was_replacing old new) found) → IfOk r (λ o. IfSome o (λ u. found ≡ Some u))
-    → IfOk r (λ o. IfNone o (IfSome found (λ u. NamesActiveLog image u → ⊥)))
-    → IfOk r (λ o. (old new : Placed) → MendsBy image (was_replacing old new) → Means (was_replacing old new) o)
-all_mean {E = E} image pages size found (Ok o) means same none = λ old new m. logged_means image pages size old new m {E = E} found (Ok o) (means old new m) same none
-all_mean image pages size found (Err e) means same none = tt
+pub twins_found_back : (image : List ℕ) (f g : PlacedFile) (u : UnderWay) → AreTwins image f g → u ≡ Replacing g f → (g.header.flags ≡ 3) × (g.header.log_page ≡ 0)
+    → (f.header.log_page ≡ 0 → g.header.max_pages < f.header.max_pages) → IsFound image (meant u)
+twins_found_back image f g u twins is plain more = subst (λ w. IsFound image (meant w)) (sym is) (record {
+  dropped_there = twins.second_there;
+  kept_there = twins.first_there;
+  apart = λ e. let order = twins.order in absurd (omega (arith, e, order));
+  one_name = sym twins.one_name;
+  plain = plain.0;
+  no_log = plain.1;
+  over = λ none. inl (more none);
+})
 
 -- ---- FILES ONE BEHIND THE OTHER
 
 -- the two extents are not passed yet, and so many files were, which are left
-pub record IsAhead (image : List ℕ) (from turn : ℕ) (old new : Placed) : Type 0 where
-  pub first : from ≤ old.page
-  pub second : from ≤ new.page
-  pub passed : turn ≤ length (filter (is_before from) (files_in (units_of (obsoleted image old.page (log_of old.header)))))
+pub record IsAhead (image : List ℕ) (from turn : ℕ) (dropped kept : Placed) : Type 0 where
+  pub first : from ≤ dropped.page
+  pub second : from ≤ kept.page
+  pub passed : turn ≤ length (filter (is_before from) (files_in (units_of (flagged image dropped.page 4))))
 
 -- so it is with each file that was being replaced, if the image mends by it
 abbrev pub AreAhead : List ℕ → (from turn : ℕ) → Type 0
-AreAhead image from turn = (old new : Placed) → MendsBy image (was_replacing old new) → IsAhead image from turn old new
+AreAhead image from turn = (dropped kept : Placed) → MendsBy image (was_replacing dropped kept) → IsAhead image from turn dropped kept
 
 pub ahead_start : (image : List ℕ) → AreAhead image 0 0
-ahead_start image old new m = record { first = omega arith; second = omega arith; passed = omega arith }
+ahead_start image dropped kept m = record { first = omega arith; second = omega arith; passed = omega arith }
 
 -- the first file that is ahead has no twin behind it
 pub ahead_step : (image : List ℕ) (pages from turn : ℕ) (f : Placed) → length image ≡ 256 * pages → Contains (files_in (units_of image)) f → from ≤ f.page → HasNoFile image from f.page None
     → ((to : ℕ) → HasNoFile image (f.page + 1) to (Some f.header.name)) → AreAhead image from turn → AreAhead image (f.page + 1) (turn + 1)
-ahead_step image pages from turn f size there low first alone ahead old new m =
-    let a = ahead old new m in
+ahead_step image pages from turn f size there low first alone ahead dropped kept m =
+    let a = ahead dropped kept m in
     let passed = a.passed in
-    let apart_old = not_twin old new m.found.old_there m.found.new_there m.found.apart m.found.one_name (not_past new m.found.new_there a.second) in
-    let apart_new = not_twin new old m.found.new_there m.found.old_there (λ e. m.found.apart (sym e)) (sym m.found.one_name) (not_past old m.found.old_there a.first) in
-    let before_old = not_past old m.found.old_there a.first in
-    let before_new = not_past new m.found.new_there a.second in
-    let here = file_left image pages size old new m f there apart_old in
-    let among = among_filter is_file (left image pages size old new m f) (extents 0 (units_of (obsoleted image old.page (log_of old.header))))
-    (begun_extent (units_of (obsoleted image old.page (log_of old.header))) 0 f.page (left image pages size old new m f).header here.0) here.1 in
-    let gains = filter_gains (is_before from) (is_before (f.page + 1)) (left image pages size old new m f) (files_in (units_of (obsoleted image old.page (log_of old.header)))) weaker among
+    let apart_dropped = not_twin dropped kept m.found.dropped_there m.found.kept_there m.found.apart m.found.one_name (not_past kept m.found.kept_there a.second) in
+    let apart_kept = not_twin kept dropped m.found.kept_there m.found.dropped_there (λ e. m.found.apart (sym e)) (sym m.found.one_name) (not_past dropped m.found.dropped_there a.first) in
+    let before_dropped = not_past dropped m.found.dropped_there a.first in
+    let before_kept = not_past kept m.found.kept_there a.second in
+    let here = file_left image pages size dropped kept m f there apart_dropped in
+    let among = among_filter is_file (left image pages size dropped kept m f) (extents 0 (units_of (flagged image dropped.page 4)))
+    (begun_extent (units_of (flagged image dropped.page 4)) 0 f.page (left image pages size dropped kept m f).header here.0) here.1 in
+    let gains = filter_gains (is_before from) (is_before (f.page + 1)) (left image pages size dropped kept m f) (files_in (units_of (flagged image dropped.page 4))) weaker among
     (lt_false f.page from low) (lt_true f.page (f.page + 1) (omega arith)) in
     record {
-      first = omega (arith, apart_old, before_old);
-      second = omega (arith, apart_new, before_new);
+      first = omega (arith, apart_dropped, before_dropped);
+      second = omega (arith, apart_kept, before_kept);
       passed = omega (arith, passed, gains);
     }
   where
@@ -281,9 +251,9 @@ ahead_step image pages from turn f size there low first alone ahead old new m =
         (cases_lt e.page from)
 
 -- 33 files are too many to be left
-pub ahead_end : (image : List ℕ) (pages from turn : ℕ) (old new : Placed) → length image ≡ 256 * pages → 33 ≤ turn → AreAhead image from turn → MendsBy image (was_replacing old new) → ⊥
-ahead_end image pages from turn old new size all ahead m =
-    let files : List Placed = files_in (units_of (obsoleted image old.page (log_of old.header))) in
-    let passed = (ahead old new m).passed in
-    let few = (kept image pages size old new m).rules.few in
+pub ahead_end : (image : List ℕ) (pages from turn : ℕ) (dropped kept : Placed) → length image ≡ 256 * pages → 33 ≤ turn → AreAhead image from turn → MendsBy image (was_replacing dropped kept) → ⊥
+ahead_end image pages from turn dropped kept size all ahead m =
+    let files : List Placed = files_in (units_of (flagged image dropped.page 4)) in
+    let passed = (ahead dropped kept m).passed in
+    let few = (rules_kept image pages size dropped kept m).rules.few in
     absurd (omega (arith, all, passed, few, filter_few (is_before from) files))

@@ -16,7 +16,7 @@ pub record AreWrong (image : List ℕ) (bad : BadImage) : Type 0 where
   pub erased : 1 ≤ bad.rule → bad.rule ≤ 4 → IsWrong image bad.place Erased
   pub replaced : 5 ≤ bad.rule → bad.rule ≤ 6 → IsWrong image bad.place Replaced
   pub named : 7 ≤ bad.rule → bad.rule ≤ 9 → IsWrong image bad.place Header
-  pub nothing : bad.rule ≡ 12 → IsWrong image bad.place no_guess
+  pub nothing : (bad.rule ≡ 12) ⊎ (bad.rule ≡ 10) → IsWrong image bad.place no_guess
 
 module _ (image : List ℕ) (bad : BadImage) where
   pub head_wrong : bad.rule ≡ 1 → IsHeadWrong image bad.place → AreWrong image bad
@@ -26,7 +26,7 @@ module _ (image : List ℕ) (bad : BadImage) where
     erased = λ low high. w.erased;
     replaced = λ low high. absurd (omega (arith, rule, low));
     named = λ low high. absurd (omega (arith, rule, low));
-    nothing = λ e. absurd (omega (arith, rule, e));
+    nothing = ⊎_elim (λ (e : bad.rule ≡ 12). absurd (omega (arith, rule, e))) (λ (e : bad.rule ≡ 10). absurd (omega (arith, rule, e)));
   }
 
   pub erased_wrong : 2 ≤ bad.rule → bad.rule ≤ 4 → IsWrong image bad.place Erased → AreWrong image bad
@@ -36,7 +36,7 @@ module _ (image : List ℕ) (bad : BadImage) where
     erased = λ low high. w;
     replaced = λ low high. absurd (omega (arith, to, low));
     named = λ low high. absurd (omega (arith, to, low));
-    nothing = λ e. absurd (omega (arith, to, e));
+    nothing = ⊎_elim (λ (e : bad.rule ≡ 12). absurd (omega (arith, to, e))) (λ (e : bad.rule ≡ 10). absurd (omega (arith, to, e)));
   }
 
   pub replaced_wrong : 5 ≤ bad.rule → bad.rule ≤ 6 → IsWrong image bad.place Replaced → AreWrong image bad
@@ -46,7 +46,7 @@ module _ (image : List ℕ) (bad : BadImage) where
     erased = λ low high. absurd (omega (arith, from, high));
     replaced = λ low high. w;
     named = λ low high. absurd (omega (arith, to, low));
-    nothing = λ e. absurd (omega (arith, to, e));
+    nothing = ⊎_elim (λ (e : bad.rule ≡ 12). absurd (omega (arith, to, e))) (λ (e : bad.rule ≡ 10). absurd (omega (arith, to, e)));
   }
 
   pub named_wrong : 7 ≤ bad.rule → bad.rule ≤ 9 → IsWrong image bad.place Header → AreWrong image bad
@@ -56,10 +56,10 @@ module _ (image : List ℕ) (bad : BadImage) where
     erased = λ low high. absurd (omega (arith, from, high));
     replaced = λ low high. absurd (omega (arith, from, high));
     named = λ low high. w;
-    nothing = λ e. absurd (omega (arith, to, e));
+    nothing = ⊎_elim (λ (e : bad.rule ≡ 12). absurd (omega (arith, to, e))) (λ (e : bad.rule ≡ 10). absurd (omega (arith, to, e)));
   }
 
-  pub nothing_wrong : bad.rule ≡ 12 → IsWrong image bad.place no_guess → AreWrong image bad
+  pub nothing_wrong : 10 ≤ bad.rule → IsWrong image bad.place no_guess → AreWrong image bad
   nothing_wrong rule w = record {
     header = λ e. absurd (omega (arith, rule, e));
     torn_header = λ e. absurd (omega (arith, rule, e));
@@ -69,14 +69,14 @@ module _ (image : List ℕ) (bad : BadImage) where
     nothing = λ e. w;
   }
 
-  pub none_wrong : (bad.rule < 1) ⊎ ((10 ≤ bad.rule) × (bad.rule ≢ 12)) → AreWrong image bad
+  pub none_wrong : (bad.rule < 1) ⊎ ((10 ≤ bad.rule) × (bad.rule ≢ 12) × (bad.rule ≢ 10)) → AreWrong image bad
   none_wrong (inl low) = record {
     header = λ e. absurd (omega (arith, low, e));
     torn_header = λ e. absurd (omega (arith, low, e));
     erased = λ from to. absurd (omega (arith, low, from));
     replaced = λ from to. absurd (omega (arith, low, from));
     named = λ from to. absurd (omega (arith, low, from));
-    nothing = λ e. absurd (omega (arith, low, e));
+    nothing = ⊎_elim (λ (e : bad.rule ≡ 12). absurd (omega (arith, low, e))) (λ (e : bad.rule ≡ 10). absurd (omega (arith, low, e)));
   }
   none_wrong (inr out) = let high = out.0 in record {
     header = λ e. absurd (omega (arith, high, e));
@@ -84,7 +84,7 @@ module _ (image : List ℕ) (bad : BadImage) where
     erased = λ from to. absurd (omega (arith, high, to));
     replaced = λ from to. absurd (omega (arith, high, to));
     named = λ from to. absurd (omega (arith, high, to));
-    nothing = λ e. absurd (out.1 e);
+    nothing = ⊎_elim (λ (e : bad.rule ≡ 12). absurd (out.1 e)) (λ (e : bad.rule ≡ 10). absurd (out.2 e));
   }
 
 module _ (image : List ℕ) (sectors : ℕ) (size : length image ≡ 4096 * sectors) (bad : BadImage) (broken : broken_image image ≡ Some bad) (wrong : AreWrong image bad) where
@@ -101,10 +101,10 @@ module _ (image : List ℕ) (sectors : ℕ) (size : length image ≡ 4096 * sect
   by_way (Naming page) m s =
       let rule : bad.rule ≡ 8 = ap (λ (b : BadImage). b.rule) s in
       wrong.named (omega (arith, rule)) (omega (arith, rule)) (Naming page) (refl, sym (ap (λ (b : BadImage). b.place) s)) m
-  by_way (Replacing old new) m s =
+  by_way (Replacing dropped kept) m s =
       let low : 5 ≤ bad.rule = ⊎_elim (λ (e : bad.rule ≡ 5). omega (arith, e)) (λ (e : bad.rule ≡ 6). omega (arith, e)) s in
       let high : bad.rule ≤ 6 = ⊎_elim (λ (e : bad.rule ≡ 5). omega (arith, e)) (λ (e : bad.rule ≡ 6). omega (arith, e)) s in
-      wrong.replaced low high (Replacing old new) refl m
+      wrong.replaced low high (Replacing dropped kept) refl m
 
   pub mends_to_none : MendsToNone image
   mends_to_none files m = by_way m.under_way (record { found = m.found; settles = m.settles }) (first_rules_show image sectors size bad broken files m)

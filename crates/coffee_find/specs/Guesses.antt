@@ -19,7 +19,7 @@ IsGuess guess page (was_building at) = (guess ≡ Header) × (at ≡ page)
 IsGuess guess page (was_erasing sector at) = (guess ≡ Erased) × (sector ≡ page / 16)
 IsGuess guess page (was_unnamed log) = (guess ≡ Header) × (log ≡ page)
 IsGuess guess page (was_naming at) = (guess ≡ Header) × (at ≡ page)
-IsGuess guess page (was_replacing old new) = guess ≡ Replaced
+IsGuess guess page (was_replacing dropped kept) = guess ≡ Replaced
 
 -- what was found means what was under way
 abbrev pub Means : CutWay → Option UnderWay → Type 0

@@ -1,22 +1,22 @@
 -- What the steps of the search answer.
-use Rattle.std.specs.Prelude.{slice_range, ◌/◌, ◌≡◌, ◌≢◌, ◌⊎◌, ◌≤◌, ◌<◌, ⊤, ℕ, ◌+◌, ◌*◌, true, false, List, Option, Some, None}
+use Rattle.std.specs.Prelude.{slice_index, slice_range, ◌/◌, ◌≡◌, ◌≢◌, ◌⊎◌, ◌≤◌, ◌<◌, ⊤, ℕ, ◌+◌, ◌*◌, true, false, List, Option, Some, None}
 use Rattle.std.specs.List.{Contains}
-use Rattle.coffee_cuts.specs.Cuts.{HasTornRecord, IsActiveAt, IsHeadless, IsIdle, IsSettled, next_record}
+use Rattle.coffee_cuts.specs.Cuts.{HasTornRecord, IsActiveAt, IsHeadless, IsIdle, IsNumbered, IsSettled, IsSuperseding, next_record}
 use Rattle.coffee_header.specs.declared.header.Header.{Header}
-use Rattle.coffee_layout.specs.FileBytes.{table_of, used_in}
-use Rattle.coffee_layout.specs.Files.{Placed, files_in, is_file, log_of}
+use Rattle.coffee_layout.specs.FileBytes.{file_byte, table_of, used_in}
+use Rattle.coffee_layout.specs.Files.{Placed, files_in, is_file, listed}
 use Rattle.afl_base.specs.declared.ids.PageId.{PageId}
-use Rattle.coffee_find.specs.declared.trouble.UnderWay.{UnderWay}
-use Rattle.coffee_find.specs.declared.trouble.UnderWay.TheVariants.{Nothing, Beginning, Building, Erasing, Unnamed, Naming, Replacing}
 use Rattle.coffee_layout.specs.Rules.{broken_image}
 use Rattle.coffee_layout.specs.Tiling.{IsTiled, nowhere, units_of}
 use Rattle.coffee_layout.specs.Units.{is_active, unit_at}
 use Rattle.padded.specs.Zeros.{is_zeros}
+use Rattle.coffee_layout.specs.declared.file.FileAt.{FileAt}
 use Rattle.coffee_layout.specs.declared.unit.Unit.{Unit}
 use Rattle.coffee_layout.specs.declared.unit.Unit.TheVariants.{Extent, Free}
 use Rattle.coffee_merge.specs.Begun.{unit_begun}
 use Rattle.coffee_find.specs.Found.{HasRecord, placed_of}
 use Rattle.coffee_find.specs.declared.trouble.PlacedFile.{PlacedFile}
+use Rattle.coffee_find.specs.declared.trouble.TornRecord.{TornRecord}
 use Rattle.coffee_find.specs.declared.settling.Verdict.{Verdict}
 use Rattle.coffee_find.specs.declared.settling.Verdict.TheVariants.{Sound, Torn, Broken}
 
@@ -30,16 +30,17 @@ pub record HasActivePart (u : Unit) (page next sector : ℕ) : Type 0 where
   pub from : 16 * sector < next
   pub to : page < 16 * sector + 16
 
--- the next record of an active log begins at a place
-pub record IsNextRecord (image : List ℕ) (log place : ℕ) : Type 0 where
-  pub is_log : IsActiveAt image log 19
-  pub free : used_in (table_of image log) < 30
-  pub next : place ≡ next_record image log
+-- a record is the next one of an active log
+pub record IsNextRecord (image : List ℕ) (r : TornRecord) : Type 0 where
+  pub is_log : IsActiveAt image r.log.0 19
+  pub free : used_in (table_of image r.log.0) < 30
+  pub used : r.used ≡ used_in (table_of image r.log.0)
+  pub next : r.place ≡ next_record image r.log.0
 
 -- an image is sound, or a record of it may be torn, or else nothing is known
 abbrev pub IsVerdict : List ℕ → Verdict → Type 0
 IsVerdict image Sound = broken_image image ≡ None
-IsVerdict image (Torn r) = IsNextRecord image r.log.0 r.place
+IsVerdict image (Torn r) = IsNextRecord image r
 IsVerdict image Broken = ⊤
 
 -- the record that may be torn lies inside the flash
@@ -130,18 +131,40 @@ pub record IsTornHead (image : List ℕ) (page : ℕ) : Type 0 where
   pub torn : unit_at image page ≡ None
   pub last : is_zeros (slice_range image (256 * page + 256) (4096 * (page / 16) + 4096)) ≡ true
 
--- what a verdict leaves open: of an image that breaks a rule the record of no other log may be torn, and of which nothing is known is not settled
+-- the image breaks a rule, and no record but that of one log may be torn, or be superseded
+pub record IsTornAtMost (image : List ℕ) (log : ℕ) : Type 0 where
+  pub broken : broken_image image ≢ None
+  pub torn : (t : HasTornRecord image) → t.log ≡ log
+  pub superseding : (t : IsSuperseding image) → t.log.0 ≡ log
+
+-- what a verdict leaves open: the record of no other log may be torn, and an image of which nothing is known is not settled
 abbrev pub MissesNone : List ℕ → Verdict → Type 0
 MissesNone image Sound = ⊤
-MissesNone image (Torn r) = (broken_image image ≢ None) × ((t : HasTornRecord image) → t.log ≡ r.log.0)
+MissesNone image (Torn r) = IsTornAtMost image r.log.0
 MissesNone image Broken = IsSettled image → ⊥
 
--- a file was active in two extents, and the log of the old one, if any, is an active one
-abbrev pub NamesActiveLog : List ℕ → UnderWay → Type 0
-NamesActiveLog image Nothing = ⊥
-NamesActiveLog image (Beginning page) = ⊥
-NamesActiveLog image (Building page) = ⊥
-NamesActiveLog image (Erasing sector page) = ⊥
-NamesActiveLog image (Unnamed log) = ⊥
-NamesActiveLog image (Naming page) = ⊥
-NamesActiveLog image (Replacing old new) = (l : PageId) → log_of old.header ≡ Some l → IsActiveAt image l.0 19
+-- bytes that stand behind a torn record are a front part of a region and zeros, with a number that goes with that
+pub record IsBegunOf (record_bytes region : List ℕ) (number size : ℕ) : Type 0 where
+  pub done : ℕ
+  pub within : done ≤ 128
+  pub numbered : IsNumbered number done size
+  pub front : (k : ℕ) → k < done → slice_index record_bytes k ≡ slice_index region k
+  pub rest : (k : ℕ) → done ≤ k → k < 128 → slice_index record_bytes k ≡ 0
+
+-- one of 128 bytes, from one on, is not zero
+pub record HasOtherFrom (bytes : List ℕ) (from : ℕ) : Type 0 where
+  pub at : ℕ
+  pub behind : from ≤ at
+  pub below : at < 128
+  pub other : slice_index bytes at ≢ 0
+
+-- a file that is listed in an image has a log, and these are the bytes of its first region
+pub record IsFirstRegion (image : List ℕ) (log : PageId) (file : FileAt) (region : List ℕ) : Type 0 where
+  pub sound : broken_image image ≡ None
+  pub there : Contains (listed image) file
+  pub logged : file.log ≡ Some log
+  pub bytes : (k : ℕ) → k < 128 → slice_index region k ≡ file_byte image file.page.0 file.log k
+
+-- an image is not sound, or no file that is listed in it has the log
+abbrev pub NamesNone : List ℕ → PageId → Type 0
+NamesNone image log = broken_image image ≡ None → (file : FileAt) → Contains (listed image) file → file.log ≡ Some log → ⊥

@@ -82,6 +82,7 @@ fn erased_through<F: Flash>(
         second: None,
         sector: Some(sector),
         blank: None,
+        two: None,
     };
     let mut view = View::new(flash, overlay);
     *front = idle_front(&mut view, sector);

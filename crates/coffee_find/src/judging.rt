@@ -38,7 +38,7 @@ fn judge_broken<F: Flash>(
     ensures judged { IsTrue F.tells → broken_image (F.image flash.old) ≡ Some bad
         → IfOk result (λ j. IsJudged (F.image flash.old) j) }
     ensures inside { IfOk result (λ j. IsJudgedInside (length (F.image flash.old)) j) }
-    ensures reads { F.reads flash.new ≤ F.reads flash.old + 2607 * pages_of (F.image flash.old) + 60 }
+    ensures reads { F.reads flash.new ≤ F.reads flash.old + 2607 * pages_of (F.image flash.old) + 84 }
     ensures frame { OnlyReads F.image F.lent F.reads F.faults flash.old flash.new result }
 {
     match search(flash, &bad, table)? {
@@ -57,7 +57,7 @@ fn search<F: Flash>(
     ensures none { IsTrue F.tells → broken_image (F.image flash.old) ≡ Some bad.now
         → IfOk result (λ o. IfNone o (MendsToNone (F.image flash.old))) }
     ensures inside { IfOk result (λ o. IfSome o (λ t. IsTroubleInside (length (F.image flash.old)) t)) }
-    ensures reads { F.reads flash.new ≤ F.reads flash.old + 2607 * pages_of (F.image flash.old) + 60 }
+    ensures reads { F.reads flash.new ≤ F.reads flash.old + 2607 * pages_of (F.image flash.old) + 84 }
     ensures frame { OnlyReads F.image F.lent F.reads F.faults flash.old flash.new result }
 {
     flash.sectors();
@@ -67,6 +67,7 @@ fn search<F: Flash>(
         2 | 3 | 4 => search_for(flash, Guess::Erased, page, table),
         5 | 6 => search_for(flash, Guess::Replaced, page, table),
         7 | 8 | 9 => search_for(flash, Guess::Header, page, table),
+        10 => search_for(flash, Guess::Nothing, page, table),
         12 => search_for(flash, Guess::Nothing, page, table),
         _ => Ok(None),
     }
@@ -83,7 +84,7 @@ fn search_head<F: Flash>(
     ensures none { IsTrue F.tells → IfOk result
         (λ o. IfNone o (IsHeadWrong (F.image flash.old) page.0)) }
     ensures inside { IfOk result (λ o. IfSome o (λ t. IsTroubleInside (length (F.image flash.old)) t)) }
-    ensures reads { F.reads flash.new ≤ F.reads flash.old + 2607 * pages_of (F.image flash.old) + 60 }
+    ensures reads { F.reads flash.new ≤ F.reads flash.old + 2607 * pages_of (F.image flash.old) + 84 }
     ensures frame { OnlyReads F.image F.lent F.reads F.faults flash.old flash.new result }
 {
     if let Some(trouble) = search_for(flash, Guess::Header, page, table)? {
@@ -106,7 +107,7 @@ fn search_for<F: Flash>(
     ensures none { IsTrue F.tells → IfOk result
         (λ o. IfNone o (IsWrong (F.image flash.old) page.0 guess)) }
     ensures inside { IfOk result (λ o. IfSome o (λ t. IsTroubleInside (length (F.image flash.old)) t)) }
-    ensures reads { F.reads flash.new ≤ F.reads flash.old + 869 * pages_of (F.image flash.old) + 20 }
+    ensures reads { F.reads flash.new ≤ F.reads flash.old + 869 * pages_of (F.image flash.old) + 28 }
     ensures frame { OnlyReads F.image F.lent F.reads F.faults flash.old flash.new result }
 {
     match find(flash, guess, page)? {

@@ -1,6 +1,7 @@
 //! What a power cut left of an image, found by reading alone.
 #![tactic(auto)]
 
+mod behind;
 mod erased;
 mod finding;
 mod judging;

@@ -102,6 +102,7 @@ fn isolated_through<F: Flash>(flash: F, page: PageId, isolated: &mut Result<bool
         second: None,
         sector: None,
         blank: None,
+        two: None,
     };
     let mut view = View::new(flash, overlay);
     *isolated = begins_isolated(&mut view, page);

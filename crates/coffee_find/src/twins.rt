@@ -1,30 +1,28 @@
-ghost use Rattle.std.specs.Prelude.{◌≡◌, ℕ, ◌+◌, ◌*◌, ◌≤◌, ◌<◌, true, false, List, length, None, Some, IsTrue, IfNone, IfOk, IfSome};
-ghost use Rattle.afl_base.specs.declared.ids.PageId.{PageId};
+ghost use Rattle.std.specs.Prelude.{◌≡◌, ◌≢◌, ℕ, ◌+◌, ◌*◌, ◌≤◌, ◌<◌, true, false, List, length, None, Some, IsTrue, IfNone, IfOk, IfSome};
 ghost use Rattle.afl_base.specs.Keeping.{OnlyReads};
-ghost use Rattle.coffee_cuts.specs.Cuts.{IsActiveAt, IsFound, Replacing as was_replacing};
+ghost use Rattle.coffee_cuts.specs.Cuts.{IsFound, Replacing as was_replacing};
 ghost use Rattle.coffee_find.specs.Found.{HasPage, IsInFlash, meant};
 ghost use Rattle.coffee_find.specs.Guesses.{MendsBy, Means};
-ghost use Rattle.coffee_find.specs.Search.{AreTwins, HasNoFile, IsFileAt, IsFileIn, IsNoFile, IsWanted, NamesActiveLog};
+ghost use Rattle.coffee_find.specs.Search.{AreTwins, HasNoFile, IsFileAt, IsFileIn, IsNoFile, IsWanted};
 ghost use Rattle.coffee_find.specs.declared.trouble.UnderWay.TheVariants.{Replacing};
-ghost use Rattle.coffee_layout.specs.Files.{Placed, is_file, log_of};
+ghost use Rattle.coffee_layout.specs.Files.{Placed, is_file};
 ghost use Rattle.coffee_layout.specs.Units.{pages_of};
 
-use crate::settling::is_active_at;
 use crate::trouble::{PlacedFile, UnderWay};
 use crate::walks::onward;
 use afl_base::{Failed, Flash, Name, PageId};
 use coffee_header::Header;
 use coffee_layout::{Unit, next_unit};
 
-/// Two active files of one name, where there are any among the first 33: the old one and the new
-/// one. Where the image mends by a file that was being replaced, they are the extents of that.
+/// Two active files of one name, where there are any among the first 33: the one that is dropped and the
+/// one that is kept. Where the image mends by a file that was being replaced, they are the extents of that.
 pub(crate) fn find_replaced<F: Flash>(flash: &mut F) -> Result<Option<UnderWay>, Failed>
     ensures found { IsTrue F.tells → IfOk result
         (λ o. IfSome o (λ u. IsFound (F.image flash.old) (meant u))) }
-    ensures all { IsTrue F.tells → IfOk result (λ o. (old new : Placed)
-        → MendsBy (F.image flash.old) (was_replacing old new) → Means (was_replacing old new) o) }
+    ensures all { IsTrue F.tells → IfOk result (λ o. (dropped kept : Placed)
+        → MendsBy (F.image flash.old) (was_replacing dropped kept) → Means (was_replacing dropped kept) o) }
     ensures inside { IfOk result (λ o. IfSome o (λ u. IsInFlash (length (F.image flash.old)) u)) }
-    ensures reads { F.reads flash.new ≤ F.reads flash.old + 67 * pages_of (F.image flash.old) }
+    ensures reads { F.reads flash.new ≤ F.reads flash.old + 66 * pages_of (F.image flash.old) }
     ensures frame { OnlyReads F.image F.lent F.reads F.faults flash.old flash.new result }
 {
     let pages = 16 * flash.sectors();
@@ -34,50 +32,11 @@ pub(crate) fn find_replaced<F: Flash>(flash: &mut F) -> Result<Option<UnderWay>,
             return Ok(None);
         };
         if let Some(twin) = twin_of(flash, &file)? {
-            return with_its_log(flash, in_order(&file, &twin, pages));
+            return Ok(in_order(&file, &twin));
         }
         from = file.page.0 + 1;
     }
     Ok(None)
-}
-
-// What was found, where the log of an old extent is an active one.
-fn with_its_log<F: Flash>(
-    flash: &mut F,
-    found: Option<UnderWay>,
-) -> Result<Option<UnderWay>, Failed>
-    ensures same { IfOk result (λ r. IfSome r (λ u. found ≡ Some u)) }
-    ensures log { IsTrue F.tells → IfOk result (λ r. IfSome r (λ u. NamesActiveLog (F.image flash.old) u)) }
-    ensures none { IsTrue F.tells → IfOk result
-        (λ r. IfNone r (IfSome found (λ u. NamesActiveLog (F.image flash.old) u → ⊥))) }
-    ensures reads { F.reads flash.new ≤ F.reads flash.old + pages_of (F.image flash.old) }
-    ensures frame { OnlyReads F.image F.lent F.reads F.faults flash.old flash.new result }
-{
-    match found {
-        Some(UnderWay::Replacing { old, new }) => {
-            if has_its_log(flash, &old.header)? {
-                Ok(Some(UnderWay::Replacing { old, new }))
-            } else {
-                Ok(None)
-            }
-        }
-        _ => Ok(None),
-    }
-}
-
-// Whether a file has no log, or an active one.
-fn has_its_log<F: Flash>(flash: &mut F, header: &Header) -> Result<bool, Failed>
-    ensures log { IsTrue F.tells → IfOk result (λ r. r ≡ true
-        → (l : PageId) → log_of header.now ≡ Some l → IsActiveAt (F.image flash.old) l.0 19) }
-    ensures none { IsTrue F.tells → IfOk result (λ r. r ≡ false
-        → ((l : PageId) → log_of header.now ≡ Some l → IsActiveAt (F.image flash.old) l.0 19) → ⊥) }
-    ensures reads { F.reads flash.new ≤ F.reads flash.old + pages_of (F.image flash.old) }
-    ensures frame { OnlyReads F.image F.lent F.reads F.faults flash.old flash.new result }
-{
-    if header.log_page == 0 {
-        return Ok(true);
-    }
-    is_active_at(flash, PageId(header.log_page - 1), 19)
 }
 
 // The first active file after one that has its name.
@@ -175,34 +134,54 @@ fn is_wanted(name: &Name, wanted: &Option<Name>) -> bool
     }
 }
 
-// Which of two files of one name is the old one, where the first stands before the second.
-fn in_order(first: &PlacedFile, second: &PlacedFile, pages: u16) -> Option<UnderWay>
+// Which of two files of one name is dropped, where the first stands before the second.
+fn in_order(first: &PlacedFile, second: &PlacedFile) -> Option<UnderWay>
     ensures found { IfSome result (λ u. (image : List ℕ) → AreTwins image first.now second.now
-        → NamesActiveLog image u → IsFound image (meant u)) }
-    ensures all { (image : List ℕ) (old new : Placed) → length image ≡ 256 * pages
-        → AreTwins image first.now second.now → MendsBy image (was_replacing old new)
-        → Means (was_replacing old new) result }
-    ensures inside { IfSome result (λ u. (size : ℕ) → size ≡ 256 * pages → HasPage size first.now.page.0
+        → IsFound image (meant u)) }
+    ensures all { (image : List ℕ) (pages : ℕ) (dropped kept : Placed) → length image ≡ 256 * pages
+        → AreTwins image first.now second.now → MendsBy image (was_replacing dropped kept)
+        → Means (was_replacing dropped kept) result }
+    ensures inside { IfSome result (λ u. (size : ℕ) → HasPage size first.now.page.0
         → HasPage size second.now.page.0 → IsInFlash size u) }
 {
-    if first.header.log_page == 0 {
-        replacing(second, first, pages)
+    if is_first_kept(&first.header, &second.header) {
+        replacing(second, first)
     } else {
-        replacing(first, second, pages)
+        replacing(first, second)
     }
 }
 
-// The new file has no log, and that of the old one lies inside the flash.
-fn replacing(old: &PlacedFile, new: &PlacedFile, pages: u16) -> Option<UnderWay>
-    ensures found { IfSome result (λ u. (u ≡ Replacing old.now new.now) × (new.now.header.log_page ≡ 0)) }
-    ensures none { IfNone result (new.now.header.log_page ≡ 0 → pages < old.now.header.log_page) }
-    ensures inside { IfSome result (λ u. old.now.header.log_page ≤ pages) }
+// Whether the first of two files is the one to keep: the second has no log, and the first has one, or
+// more pages.
+fn is_first_kept(first: &Header, second: &Header) -> bool
+    ensures yes { result ≡ true → (second.now.log_page ≡ 0)
+        × (first.now.log_page ≡ 0 → second.now.max_pages < first.now.max_pages) }
+    ensures no { result ≡ false → second.now.log_page ≡ 0
+        → (first.now.log_page ≡ 0) × (first.now.max_pages ≤ second.now.max_pages) }
 {
-    if new.header.log_page != 0 || pages < old.header.log_page {
+    if second.log_page != 0 {
+        return false;
+    }
+    if first.log_page != 0 {
+        return true;
+    }
+    second.max_pages < first.max_pages
+}
+
+// The file that is dropped has no log.
+fn replacing(dropped: &PlacedFile, kept: &PlacedFile) -> Option<UnderWay>
+    ensures found { IfSome result (λ u. (u ≡ Replacing dropped.now kept.now)
+        × (dropped.now.header.flags ≡ 3) × (dropped.now.header.log_page ≡ 0)) }
+    ensures none { IfNone result (dropped.now.header.flags ≡ 3 → dropped.now.header.log_page ≢ 0) }
+{
+    if dropped.header.flags != 3 {
+        return None;
+    }
+    if dropped.header.log_page != 0 {
         return None;
     }
     Some(UnderWay::Replacing {
-        old: *old,
-        new: *new,
+        dropped: *dropped,
+        kept: *kept,
     })
 }

@@ -1,25 +1,25 @@
 -- What a cut left of an image in which a record is torn mends to the files of the one with zeros in its place.
-use Rattle.std.proofs.Common.{◌≡◌, ◌⊎◌, inl, inr, ⊎_elim, ℕ, ◌+◌, ◌*◌, ◌/◌, ◌<◌, ◌≤◌, List, length, Some, None, bit_or, refl, ap, sym, subst, ◌∙◌, arith}
+use Rattle.std.proofs.Common.{◌≡◌, ◌⊎◌, inl, inr, ⊎_elim, ℕ, ◌+◌, ◌*◌, ◌/◌, ◌<◌, ◌≤◌, List, [], ◌∷◌, length, Some, None, refl, ap, sym, subst, ◌∙◌, arith}
 use Rattle.std.specs.List.{Contains}
 use Rattle.afl_base.specs.Image.{zeros_at}
+use Rattle.afl_base.proofs.Images.{length_or_at}
 use Rattle.afl_base.specs.declared.ids.PageId.{PageId}
 use Rattle.coffee_layout.specs.FileBytes.{file_byte, record_place, table_of, used_in}
-use Rattle.coffee_layout.specs.Files.{Placed, files_of}
+use Rattle.coffee_layout.specs.Files.{files_of}
 use Rattle.coffee_layout.specs.Rules.{broken_image}
 use Rattle.coffee_layout.specs.declared.file.FileAt.{FileAt}
 use Rattle.coffee_merge.specs.Begun.{active_at}
 use Rattle.coffee_merge.specs.CutMarks.{IsCutObsolete, IsCutReplace}
 use Rattle.coffee_merge.specs.Flags.{flagged, obsoleted}
-use Rattle.coffee_merge.specs.Holding.{Entries, IsIn, KeepsContents, draft_header, log_header}
+use Rattle.coffee_merge.specs.Holding.{Entries, IsIn, KeepsContents, log_header, log_number}
 use Rattle.coffee_merge.specs.TableFiles.{SameFiles}
 use Rattle.coffee_merge.proofs.Holdings.{holds_tiled, log_unit}
 use Rattle.coffee_merge.proofs.MovedFiles.{stays_files}
-use Rattle.coffee_merge.proofs.SoundHolders.{log_is, placed}
 use Rattle.coffee_merge.proofs.SoundImages.{held_sound}
 use Rattle.coffee_merge.proofs.SoundLogs.{used_is}
-use Rattle.coffee_cuts.specs.Cuts.{Erasing, IsFound, IsReplacing, Nothing, Replacing, UnderWay, Unnamed, settled}
+use Rattle.coffee_cuts.specs.Cuts.{Erasing, IsFound, Nothing, UnderWay, Unnamed, settled}
 use Rattle.coffee_cuts.specs.Mending.{IsTable}
-use Rattle.coffee_cuts.proofs.Commits.{log_unnamed, old_replaced}
+use Rattle.coffee_cuts.proofs.Commits.{log_unnamed, new_goes}
 use Rattle.coffee_cuts.proofs.Drafts.{drafted_settles}
 use Rattle.coffee_cuts.proofs.Mended.{SettlesHolding}
 use Rattle.coffee_find.specs.Found.{IsTornAt}
@@ -30,7 +30,6 @@ use Rattle.coffee_mend.proofs.LikeSettlings.{HasLogUnit, flagged_but, found_back
 use Rattle.coffee_mend.proofs.Mends.{has_record}
 use Rattle.coffee_mend.specs.Joined.{IsJoined, IsNextIn, IsSameBut, old_log_header}
 use Rattle.coffee_mend.specs.Mended.{IsSoundAs, MendsLike}
-use Rattle.padded.proofs.Facts.{none_some}
 
 -- where another image holds the files, with their content
 pub settles_after : (old mid new : List ℕ) (table : Entries) → KeepsContents old mid table → SettlesHolding new mid table → SettlesHolding new old table
@@ -109,7 +108,7 @@ module _ (whole shown image : List ℕ) (table : Entries) (i : ℕ) (e : FileAt)
         mends = record {
           under_way = s.way;
           found = found_back shown image place n.log.0 but low high s.way s.found unit;
-          settles = inr (has_record left n.log.0 place torn);
+          settles = inr (inl (has_record left n.log.0 place torn));
           files_are = refl;
         };
         kept = λ f has. subst (λ fs. Contains fs f) (sym same) (stays.kept f has);
@@ -164,17 +163,15 @@ module _ (old shown image : List ℕ) (table : Entries) (i : ℕ) (file : FileAt
       (flagged_but (flagged (valid shown) file.page.0 4) (flagged (valid image) file.page.0 4) place n.log.0 4 half_but) low_log high_log done in
       subst (IsSoundAs old) (sym is_all) (record { sound = u.0; same = u.1 })
 
-  -- the new extent is valid, and the old one is too
+  -- the new extent is valid, and the old one is too: that has a log, and the record is still torn
   both_mend : MendsLike old (valid image)
   both_mend =
       let few = t.sparing i file is in
-      let d : FileAt = joined_draft file page in
-      let new : Placed = record { page = page.0; header = record (draft_header (joined_draft file page)) { flags = bit_or 2 1 } } in
-      let found : IsReplacing (valid shown) (placed file) (record { page = page.0; header = record (draft_header (joined_draft file page)) { flags = bit_or 2 1 } }) =
-      old_replaced shown table d file i c is refl few (ends_right old shown table i file page n.log t is n.logged c.holds kept same) (λ none. absurd (none_some n.log (sym none ∙ n.logged))) in
-      let way : UnderWay = Replacing (placed file) new in
-      joined_mends old (valid shown) (valid image) place n.log.0 valid_but low_log high_log (Replacing (placed file) new) found (λ sector p same. cc)
-      (subst (λ x. IsJoined old x n.log.0) (ap (obsoleted (valid shown) file.page.0) (sym (log_is file.log ∙ n.logged))) done)
+      let last = ends_right old shown table i file page n.log t is n.logged c.holds kept same in
+      let long : length (valid image) ≡ length image = length_or_at image (256 * page.0 + 9) (1 ∷ []) in
+      let s : SettlesHolding (valid shown) shown table = new_goes shown table (joined_draft file page) file i c is refl few last
+      (λ zero. let some : log_number (Some n.log) ≡ 0 = ap log_number (sym n.logged) ∙ zero in absurd (omega (arith, some))) in
+      torn_mends old (valid shown) (valid image) table i file place t is (subst (λ m. IsNextIn m place file) (sym long) n) valid_but (settles_after old shown (valid shown) table kept s)
 
   -- the old one is obsolete, and its log is not
   half_mends : MendsLike old (flagged (valid image) file.page.0 4)

@@ -36,15 +36,23 @@ use Rattle.coffee_merge.proofs.SoundLogs.{used_is}
 use Rattle.coffee_mend.specs.Joined.{LacksRoom, LeavesFiles, IsJoined, JoinsFile, joined_at, old_log_header}
 use Rattle.coffee_merge.proofs.Retired.{one_flags as same_flags}
 
--- OBSOLETE in the headers of a file and of its log: the log stands, and is obsolete
-log_gone : (image : List ℕ) (page log : ℕ) (g : Header) (name : List ℕ) → IsTiled nowhere image (units_of image) → unit_begun (units_of image) 0 page ≡ Some (Extent g) → g.flags ≡ 11
-    → unit_begun (units_of image) 0 log ≡ Some (Extent (log_header name)) → unit_begun (units_of (flagged (flagged image page 4) log 4)) 0 log ≡ Some (Extent (old_log_header name))
-log_gone image page log g name tiled here eleven there =
+-- OBSOLETE in the header of a file: its log stands as it did
+pub log_left : (image : List ℕ) (page log : ℕ) (g : Header) (name : List ℕ) → IsTiled nowhere image (units_of image) → unit_begun (units_of image) 0 page ≡ Some (Extent g) → g.flags ≡ 11
+    → unit_begun (units_of image) 0 log ≡ Some (Extent (log_header name))
+    → IsTiled nowhere (flagged image page 4) (units_of (flagged image page 4)) × (unit_begun (units_of (flagged image page 4)) 0 log ≡ Some (Extent (log_header name)))
+log_left image page log g name tiled here eleven there =
     let r = flagged_extent nowhere nowhere image page g 4 tiled here (ap (λ n. is_flags (bit_or n 4)) eleven) (ap (λ n. bit_or n 4 == 2) eleven) (λ q other. refl) in
     let apart : log ≢ page = λ same.
     let flags : g.flags ≡ 19 = same_flags g (log_header name) (sym here ∙ ap (unit_begun (units_of image) 0) (sym same) ∙ there) in
     absurd (omega (arith, flags, eleven)) in
-    (flagged_extent nowhere nowhere (flagged image page 4) log (log_header name) 4 r.tiled (r.others log apart ∙ there) refl refl (λ q other. refl)).here
+    (r.tiled, r.others log apart ∙ there)
+
+-- and in that of the log too: it is obsolete
+pub log_gone : (image : List ℕ) (page log : ℕ) (g : Header) (name : List ℕ) → IsTiled nowhere image (units_of image) → unit_begun (units_of image) 0 page ≡ Some (Extent g) → g.flags ≡ 11
+    → unit_begun (units_of image) 0 log ≡ Some (Extent (log_header name)) → unit_begun (units_of (flagged (flagged image page 4) log 4)) 0 log ≡ Some (Extent (old_log_header name))
+log_gone image page log g name tiled here eleven there =
+    let l = log_left image page log g name tiled here eleven there in
+    (flagged_extent nowhere nowhere (flagged image page 4) log (log_header name) 4 l.0 l.1 refl refl (λ q other. refl)).here
 
 -- the extent of a file that is put together with its log
 abbrev pub joined_draft : FileAt → PageId → FileAt

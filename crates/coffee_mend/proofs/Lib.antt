@@ -1,4 +1,6 @@
 pub mod Beside
+pub mod Completions
+pub mod Discards
 pub mod Erasures
 pub mod HiddenBytes
 pub mod HiddenCollections
@@ -9,6 +11,9 @@ pub mod Joins
 pub mod LikeImages
 pub mod LikeSettlings
 pub mod Mends
+pub mod RecordFills
+pub mod RegionSearch
 pub mod Settlings
-pub mod StandingLogs
+pub mod SupersedingWrites
+pub mod Supersedings
 pub mod TornOwners

@@ -1,29 +1,28 @@
 -- Two images that differ in 128 bytes of a log alone: what was under way in the one is found in the other, and they differ no more
 -- once it is settled.
-use Rattle.std.proofs.Common.{◌≡◌, ◌≢◌, ◌⊎◌, inl, inr, ⊎_elim, ℕ, ◌+◌, ◌-◌, ◌*◌, ◌/◌, ◌<◌, ◌≤◌, true, false, List, [], ◌∷◌, length, get_or, Option, Some, None, bit_or, refl, ap, sym, subst, ◌∙◌, arith}
+use Rattle.std.proofs.Common.{◌≡◌, ◌≢◌, ◌⊎◌, inl, inr, ⊎_elim, ℕ, ◌+◌, ◌-◌, ◌*◌, ◌/◌, ◌<◌, ◌≤◌, true, false, List, [], ◌∷◌, length, get_or, Some, bit_or, refl, ap, sym, subst, ◌∙◌, arith}
 use Rattle.std.specs.Prelude.{slice_range}
 use Rattle.std.specs.List.{Contains}
 use Rattle.std.proofs.lemmas.Bool.{cases_lt}
 use Rattle.std.proofs.lemmas.List.{get_or_past}
 use Rattle.afl_base.specs.Image.{or_at, page_bytes, zeros_at}
-use Rattle.afl_base.specs.declared.ids.PageId.{PageId}
 use Rattle.afl_base.proofs.Images.{length_or_at, length_zeros_at, or_at_before, or_at_behind, or_at_inside, range_at, range_same, zeros_at_before, zeros_at_behind, zeros_at_inside}
 use Rattle.coffee_header.specs.Headers.{is_flags}
 use Rattle.coffee_header.specs.declared.header.Header.{Header}
-use Rattle.coffee_layout.specs.Files.{Placed, files_in, log_of}
+use Rattle.coffee_layout.specs.Files.{Placed, files_in}
 use Rattle.coffee_layout.specs.Marks.{active_pages}
 use Rattle.coffee_layout.specs.Tiling.{IsTiled, nowhere, units_of}
 use Rattle.coffee_layout.specs.Units.{is_active, is_active_flags, unit_at}
 use Rattle.coffee_layout.specs.declared.unit.Unit.TheVariants.{Extent, Isolated}
 use Rattle.coffee_layout.proofs.Frames.{unit_at_same}
 use Rattle.coffee_merge.specs.Begun.{active_at, unit_begun}
-use Rattle.coffee_merge.specs.Flags.{flagged, obsoleted}
+use Rattle.coffee_merge.specs.Flags.{flagged}
 use Rattle.coffee_merge.proofs.Beginning.{zero_at as zeros_in}
 use Rattle.coffee_merge.proofs.Begun.{begun_marks, begun_order, have_pages}
 use Rattle.coffee_space.proofs.SectorMarks.{any_each}
 use Rattle.coffee_cuts.specs.Cuts.{Beginning, Building, Erasing, IsActiveAt, IsErasing, IsFound, IsIdle, IsReplacing, IsTornHeader, Naming, Nothing, Replacing, UnderWay, Unnamed, settled}
 use Rattle.coffee_cuts.proofs.MarkedPages.{extent_ninth, marked_alike, ninth, other_ninth, same_marked, stands_at}
-use Rattle.coffee_cuts.proofs.TwoMarks.{IsMarked, eight, five, four, gone_marked, once_marked}
+use Rattle.coffee_cuts.proofs.TwoMarks.{IsMarked, eight, five, four, once_marked}
 use Rattle.coffee_mend.proofs.LikeImages.{IsOff, unit_off, units_same}
 use Rattle.padded.specs.Zeros.{is_zeros}
 use Rattle.padded.proofs.Facts.{yes_no}
@@ -86,10 +85,6 @@ zeros_but shown image place at n fits but =
           (cases_lt k at);
     }
 
-obsoleted_but : (shown image : List ℕ) (place page : ℕ) (log : Option PageId) → IsSameBut shown image place → IsSameBut (obsoleted shown page log) (obsoleted image page log) place
-obsoleted_but shown image place page None but = flagged_but shown image place page 4 but
-obsoleted_but shown image place page (Some l) but = flagged_but (flagged shown page 4) (flagged image page 4) place l.0 4 (flagged_but shown image place page 4 but)
-
 pub settled_but : (shown image : List ℕ) (place : ℕ) (w : UnderWay) → IsFound shown w → IsSameBut shown image place → IsSameBut (settled shown w) (settled image w) place
 settled_but shown image place Nothing f but = but
 settled_but shown image place (Beginning page) f but = flagged_but shown image place page 34 but
@@ -97,7 +92,7 @@ settled_but shown image place (Building page) f but = flagged_but shown image pl
 settled_but shown image place (Erasing sector page) f but = zeros_but shown image place (4096 * sector) 4096 f.inside but
 settled_but shown image place (Unnamed log) f but = flagged_but shown image place log 4 but
 settled_but shown image place (Naming page) f but = flagged_but shown image place page 8 but
-settled_but shown image place (Replacing old new) f but = obsoleted_but shown image place old.page (log_of old.header) but
+settled_but shown image place (Replacing dropped kept) f but = flagged_but shown image place dropped.page 4 but
 
 -- ---- WHAT IS FOUND
 
@@ -122,15 +117,15 @@ module _ (shown image : List ℕ) (place log : ℕ) (but : IsSameBut shown image
   active_back : (page flags : ℕ) → units_of image ≡ units_of shown → IsActiveAt shown page flags → IsActiveAt image page flags
   active_back page flags same a = record { header = a.header; there = ap (λ us. active_at us page) same ∙ a.there; flags_are = a.flags_are }
 
-  replacing_back : (old new : Placed) → units_of image ≡ units_of shown → IsReplacing shown old new → IsReplacing image old new
-  replacing_back old new same r = record {
-    old_there = subst (λ us. Contains (files_in us) old) (sym same) r.old_there;
-    new_there = subst (λ us. Contains (files_in us) new) (sym same) r.new_there;
+  replacing_back : (dropped kept : Placed) → units_of image ≡ units_of shown → IsReplacing shown dropped kept → IsReplacing image dropped kept
+  replacing_back dropped kept same r = record {
+    dropped_there = subst (λ us. Contains (files_in us) dropped) (sym same) r.dropped_there;
+    kept_there = subst (λ us. Contains (files_in us) kept) (sym same) r.kept_there;
     apart = r.apart;
     one_name = r.one_name;
-    new_has_none = r.new_has_none;
-    before = r.before;
-    logged = λ l named. active_back l.0 19 same (r.logged l named);
+    plain = r.plain;
+    no_log = r.no_log;
+    over = r.over;
   }
 
   -- a range that has none of the bytes
@@ -222,4 +217,4 @@ module _ (shown image : List ℕ) (place log : ℕ) (but : IsSameBut shown image
   found_back (Erasing sector page) f l = erasing_back sector page f l
   found_back (Unnamed other) f l = active_back other 19 (by_marks (flagged shown other 4) (Unnamed other) (once_marked shown other 4 four) l) f
   found_back (Naming page) f l = active_back page 3 (by_marks (flagged shown page 8) (Naming page) (once_marked shown page 8 eight) l) f
-  found_back (Replacing old new) f l = replacing_back old new (by_marks (obsoleted shown old.page (log_of old.header)) (Replacing old new) (gone_marked shown old new f) l) f
+  found_back (Replacing dropped kept) f l = replacing_back dropped kept (by_marks (flagged shown dropped.page 4) (Replacing dropped kept) (once_marked shown dropped.page 4 four) l) f

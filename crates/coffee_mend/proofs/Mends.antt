@@ -8,7 +8,7 @@ use Rattle.afl_base.specs.declared.kind.FileError.TheVariants.{Space as file_spa
 use Rattle.coffee_mend.specs.declared.mending.MendError.{MendError}
 use Rattle.coffee_mend.specs.declared.mending.MendError.TheVariants.{Space, Failed, Unsettled}
 use Rattle.afl_base.specs.Image.{zeros_at}
-use Rattle.coffee_cuts.specs.Cuts.{HasTornRecord, Nothing, IsSettled, settled}
+use Rattle.coffee_cuts.specs.Cuts.{HasTornRecord, MendsTo, Nothing, IsSettled, settled}
 use Rattle.coffee_find.specs.Found.{IsCutBy, IsSoundBut, IsTornAt, meant}
 use Rattle.coffee_find.specs.declared.trouble.TornRecord.{TornRecord}
 use Rattle.coffee_find.specs.declared.trouble.Trouble.{Trouble}
@@ -57,18 +57,39 @@ has_record image log place t = record {
 -- an image that is sound but for a torn record is settled
 pub cut_settles : (image : List ℕ) (o : Option TornRecord) → IsSoundBut image o → IsSettled image
 cut_settles image None sound = inl sound
-cut_settles image (Some r) t = inr (has_record image r.log.0 r.place t)
+cut_settles image (Some r) (inl t) = inr (inl (has_record image r.log.0 r.place t.1))
+cut_settles image (Some r) (inr s) = inr (inr s.superseding)
 
--- it mends to the files that it has with zeros in the place of the record
-pub torn_like : (image : List ℕ) (log place : ℕ) → 256 * pages_of image ≡ length image → place + 128 ≤ length image → IsTornAt image log place → MendsLike (zeros_at image place 128) image
-torn_like image log place whole inside t =
-    let same : files_of image ≡ files_of (zeros_at image place 128) = torn_files image log place whole inside t in
-    record {
-      files = files_of image;
-      mends = record { under_way = Nothing; found = tt; settles = inr (has_record image log place t); files_are = refl };
-      kept = λ f has. subst (λ fs. Contains fs f) (sym same) has;
-      only = λ f has. subst (λ fs. Contains fs f) same has;
-    }
+-- and mends to its files
+pub cut_like : (image : List ℕ) (o : Option TornRecord) → IsSoundBut image o → MendsLike image image
+cut_like image o t = record {
+  files = files_of image;
+  mends = record { under_way = Nothing; found = tt; settles = cut_settles image o t; files_are = refl };
+  kept = λ f has. has;
+  only = λ f has. has;
+}
+
+-- these are the files that it has with zeros in the place of the record
+module _ (image new : List ℕ) (log place : ℕ) (whole : 256 * pages_of image ≡ length image) (inside : place + 128 ≤ length image) (t : IsTornAt image log place) where
+  same : files_of image ≡ files_of (zeros_at image place 128)
+  same = torn_files image log place whole inside t
+
+  pub shown_sound : IsSoundAs (zeros_at image place 128) new → IsSoundAs image new
+  shown_sound s = record {
+    sound = s.sound;
+    same = record {
+      kept = λ f has. s.same.kept f (subst (λ fs. Contains fs f) same has);
+      only = λ f has. subst (λ fs. Contains fs f) (sym same) (s.same.only f has);
+    };
+  }
+
+  pub shown_like : MendsLike (zeros_at image place 128) new → MendsLike image new
+  shown_like m = record {
+    files = m.files;
+    mends = m.mends;
+    kept = λ f has. m.kept f (subst (λ fs. Contains fs f) same has);
+    only = λ f has. subst (λ fs. Contains fs f) (sym same) (m.only f has);
+  }
 
 -- nothing but what was under way
 pub mended_whole : (old new : List ℕ) (trouble : Trouble) → IsCutBy old trouble → trouble.torn ≡ None → new ≡ settled old (meant trouble.under_way) → IsMended old new
@@ -84,54 +105,38 @@ mended_whole old new trouble cut none is =
     }
 
 -- a torn record is found once that is settled
-pub torn_found : (old mid : List ℕ) (trouble : Trouble) (r : TornRecord) → IsCutBy old trouble → trouble.torn ≡ Some r → mid ≡ settled old (meant trouble.under_way) → IsTornAt mid r.log.0 r.place
+pub torn_found : (old mid : List ℕ) (trouble : Trouble) (r : TornRecord) → IsCutBy old trouble → trouble.torn ≡ Some r → mid ≡ settled old (meant trouble.under_way) → IsSoundBut mid (Some r)
 torn_found old mid trouble r cut some is = subst (λ i. IsSoundBut i (Some r)) (sym is) (subst (λ o. IsSoundBut (settled old (meant trouble.under_way)) o) some cut.settles)
 
--- and put right
-pub mended_torn : (old mid new : List ℕ) (trouble : Trouble) (r : TornRecord) → IsCutBy old trouble → trouble.torn ≡ Some r → mid ≡ settled old (meant trouble.under_way) → 256 * pages_of mid ≡ length mid
-    → r.place + 128 ≤ length mid → IsSoundAs (zeros_at mid r.place 128) new → IsMended old new
-mended_torn old mid new trouble r cut some is whole inside s =
-    let t : IsTornAt mid r.log.0 r.place = torn_found old mid trouble r cut some is in
-    let same : files_of mid ≡ files_of (zeros_at mid r.place 128) = torn_files mid r.log.0 r.place whole inside t in
-    let files : List NamedFile = files_of mid in
-    record {
-      files = files;
-      mends = record { under_way = meant trouble.under_way; found = cut.found; settles = subst IsSettled is (inr (has_record mid r.log.0 r.place t)); files_are = ap files_of is };
-      sound = s.sound;
-      kept = λ f has. s.same.kept f (subst (λ fs. Contains fs f) same has);
-      only = λ f has. subst (λ fs. Contains fs f) (sym same) (s.same.only f has);
-    }
+module _ (old mid new : List ℕ) (trouble : Trouble) (r : TornRecord) (cut : IsCutBy old trouble) (some : trouble.torn ≡ Some r) (is : mid ≡ settled old (meant trouble.under_way)) where
+  mends_mid : MendsTo old (files_of mid)
+  mends_mid = record {
+    under_way = meant trouble.under_way;
+    found = cut.found;
+    settles = subst IsSettled is (cut_settles mid (Some r) (torn_found old mid trouble r cut some is));
+    files_are = ap files_of is;
+  }
 
--- a torn record for whose file no pages are had
-pub mended_crowded : (old mid new : List ℕ) (trouble : Trouble) (r : TornRecord) (need : ℕ) → IsCutBy old trouble → trouble.torn ≡ Some r → mid ≡ settled old (meant trouble.under_way) → IsTornAs mid new r.log.0 r.place need → IsCrowded old new need
-mended_crowded old mid new trouble r need cut some is s =
-    let files : List NamedFile = files_of mid in
-    let others : List NamedFile = files_of new in
-    record {
-      alike = record {
-        files = files;
-        mends = record { under_way = meant trouble.under_way; found = cut.found; settles = subst IsSettled is (inr (has_record mid r.log.0 r.place (torn_found old mid trouble r cut some is))); files_are = ap files_of is };
-        others = others;
-        still = record { under_way = Nothing; found = tt; settles = inr (has_record new r.log.0 r.place s.torn); files_are = refl };
-        kept = s.same.kept;
-        only = s.same.only;
-      };
-      log = r.log.0;
-      wants = s.wants;
-      cramped = s.cramped;
-    }
+  -- and put right
+  pub mended_torn : IsSoundAs mid new → IsMended old new
+  mended_torn s = record { files = files_of mid; mends = mends_mid; sound = s.sound; kept = s.same.kept; only = s.same.only }
 
--- a torn record whose file was being put together with its log
-pub mended_cut : (old mid new : List ℕ) (trouble : Trouble) (r : TornRecord) → IsCutBy old trouble → trouble.torn ≡ Some r → mid ≡ settled old (meant trouble.under_way) → 256 * pages_of mid ≡ length mid
-    → r.place + 128 ≤ length mid → MendsLike (zeros_at mid r.place 128) new → MendAlike old new
-mended_cut old mid new trouble r cut some is whole inside m =
-    let t : IsTornAt mid r.log.0 r.place = torn_found old mid trouble r cut some is in
-    let same : files_of mid ≡ files_of (zeros_at mid r.place 128) = torn_files mid r.log.0 r.place whole inside t in
-    record {
+  -- a torn record for whose file no pages are had
+  pub mended_crowded : (need : ℕ) → IsTornAs mid new r.log.0 r.place need → IsCrowded old new need
+  mended_crowded need s = record {
+    alike = record {
       files = files_of mid;
-      mends = record { under_way = meant trouble.under_way; found = cut.found; settles = subst IsSettled is (inr (has_record mid r.log.0 r.place t)); files_are = ap files_of is };
-      others = m.files;
-      still = m.mends;
-      kept = λ f has. m.kept f (subst (λ fs. Contains fs f) same has);
-      only = λ f has. subst (λ fs. Contains fs f) (sym same) (m.only f has);
-    }
+      mends = mends_mid;
+      others = files_of new;
+      still = record { under_way = Nothing; found = tt; settles = inr (inl (has_record new r.log.0 r.place s.torn)); files_are = refl };
+      kept = s.same.kept;
+      only = s.same.only;
+    };
+    log = r.log.0;
+    wants = s.wants;
+    cramped = s.cramped;
+  }
+
+  -- a torn record that was being put right
+  pub mended_cut : MendsLike mid new → MendAlike old new
+  mended_cut m = record { files = files_of mid; mends = mends_mid; others = m.files; still = m.mends; kept = m.kept; only = m.only }

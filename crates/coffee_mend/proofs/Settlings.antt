@@ -1,14 +1,11 @@
 -- An image that a cut left of a write that settles another one mends to its files.
-use Rattle.std.proofs.Common.{◌≡◌, ⊎_elim, ℕ, ◌*◌, List, Option, Some, None, refl, ap, subst, sym, ◌∙◌}
-use Rattle.afl_base.specs.declared.ids.PageId.{PageId}
+use Rattle.std.proofs.Common.{◌≡◌, ⊎_elim, ℕ, ◌*◌, List, refl, ap, subst, sym, ◌∙◌}
 use Rattle.afl_base.specs.Cuts.{IsCutErase}
 use Rattle.afl_base.specs.Image.{zeros_at}
-use Rattle.coffee_cuts.specs.Cuts.{IsActiveAt, IsErasing, IsFound, IsSettled, UnderWay, Nothing, Beginning, Building, Erasing, Unnamed, Naming, Replacing, settled}
-use Rattle.coffee_layout.specs.Files.{NamedFile, Placed, files_of, log_of}
+use Rattle.coffee_cuts.specs.Cuts.{IsErasing, IsFound, IsSettled, UnderWay, Nothing, Beginning, Building, Erasing, Unnamed, Naming, Replacing, settled}
+use Rattle.coffee_layout.specs.Files.{NamedFile, files_of}
 use Rattle.coffee_merge.specs.CutMarks.{IsOneOf}
-use Rattle.coffee_merge.specs.Flags.{flagged, obsoleted}
 use Rattle.coffee_mend.proofs.Erasures.{erasing_again, whole_same}
-use Rattle.coffee_mend.proofs.StandingLogs.{log_stands}
 use Rattle.coffee_mend.specs.Mended.{MendAlike}
 use Rattle.coffee_mend.specs.Settling.{IsCutSettling}
 
@@ -36,13 +33,6 @@ done old new u found settles is = alike old new u Nothing found settles tt is
 one : (old new : List ℕ) (u : UnderWay) → IsFound old u → IsSettled (settled old u) → IsOneOf new old (settled old u) → MendAlike old new
 one old new u found settles cut = ⊎_elim (undone old new u found settles) (done old new u found settles) cut
 
--- the old extent is obsolete, and its log is not
-half : (old new : List ℕ) (from to : Placed) (log : Option PageId) → log_of from.header ≡ log → IsFound old (Replacing from to) → IsSettled (settled old (Replacing from to))
-    → new ≡ flagged old from.page 4 → MendAlike old new
-half old new from to None none found settles is = done old new (Replacing from to) found settles (is ∙ ap (obsoleted old from.page) (sym none))
-half old new from to (Some l) some found settles is =
-    alike old new (Replacing from to) (Unnamed l.0) found settles (subst (λ i. IsActiveAt i l.0 19) (sym is) (log_stands old from to l found some)) (ap (λ i. flagged i l.0 4) is ∙ ap (obsoleted old from.page) (sym some))
-
 -- a front part of the sector is erased
 erased : (old new : List ℕ) (sector page : ℕ) → IsFound old (Erasing sector page) → IsSettled (settled old (Erasing sector page)) → IsCutErase old new sector → MendAlike old new
 erased old new sector page found settles cut =
@@ -57,6 +47,4 @@ settling_mends old new (Building page) found settles cut = one old new (Building
 settling_mends old new (Erasing sector page) found settles cut = erased old new sector page found settles cut
 settling_mends old new (Unnamed log) found settles cut = one old new (Unnamed log) found settles cut
 settling_mends old new (Naming page) found settles cut = one old new (Naming page) found settles cut
-settling_mends old new (Replacing from to) found settles cut =
-    ⊎_elim (undone old new (Replacing from to) found settles)
-    (λ more. ⊎_elim (half old new from to (log_of from.header) refl found settles) (done old new (Replacing from to) found settles) more) cut
+settling_mends old new (Replacing dropped kept) found settles cut = one old new (Replacing dropped kept) found settles cut

@@ -1,11 +1,10 @@
--- What a cut leaves of the write that settles what was under way, or of the two.
+-- What a cut leaves of the write that settles what was under way.
 use Rattle.std.specs.Prelude.{◌≡◌, ℕ, List}
 use Rattle.afl_base.specs.Cuts.{IsCutErase}
 use Rattle.coffee_cuts.specs.Cuts.{UnderWay, Nothing, Beginning, Building, Erasing, Unnamed, Naming, Replacing, settled}
-use Rattle.coffee_layout.specs.Files.{log_of}
-use Rattle.coffee_merge.specs.CutMarks.{IsCutObsolete, IsOneOf}
+use Rattle.coffee_merge.specs.CutMarks.{IsOneOf}
 
--- a flag is there or not, a front part of the sector is erased, the old extent is obsolete or not, or its log too
+-- a flag is there or not, a front part of the sector is erased
 abbrev pub IsCutSettling : (old new : List ℕ) → UnderWay → Type 0
 IsCutSettling old new Nothing = new ≡ old
 IsCutSettling old new (Beginning page) = IsOneOf new old (settled old (Beginning page))
@@ -13,4 +12,4 @@ IsCutSettling old new (Building page) = IsOneOf new old (settled old (Building p
 IsCutSettling old new (Erasing sector page) = IsCutErase old new sector
 IsCutSettling old new (Unnamed log) = IsOneOf new old (settled old (Unnamed log))
 IsCutSettling old new (Naming page) = IsOneOf new old (settled old (Naming page))
-IsCutSettling old new (Replacing from to) = IsCutObsolete old new from.page (log_of from.header)
+IsCutSettling old new (Replacing dropped kept) = IsOneOf new old (settled old (Replacing dropped kept))

@@ -1,15 +1,23 @@
-ghost use Rattle.std.specs.Prelude.{◌≡◌, ◌≢◌, Err, None, Ok, Some, length, IsTrue, IfErr, OnOk};
-ghost use Rattle.afl_base.specs.Image.{zeros_at};
+ghost use Rattle.std.specs.Prelude.{◌≡◌, ◌≢◌, ◌≤◌, ◌<◌, true, Err, None, Ok, Some, length, IsTrue, IfErr, OnOk};
 ghost use Rattle.afl_base.specs.declared.kind.FileError.TheVariants.{Failed as FaultOfFile, Space as LackOfSpace};
-ghost use Rattle.coffee_find.specs.Found.{HasRecord, IsCutBy, IsTornAt, IsTroubleInside};
+ghost use Rattle.coffee_find.specs.Found.{HasRecord, IsCutBy, IsSoundBut, IsTroubleInside, without_record};
+ghost use Rattle.coffee_find.specs.Search.{IsFirstRegion};
+ghost use Rattle.coffee_layout.specs.Files.{FitsIn};
+ghost use Rattle.coffee_layout.specs.Units.{pages_of};
+ghost use Rattle.coffee_mend.specs.Completed.{LackBits, regions_below};
 ghost use Rattle.coffee_mend.specs.Mended.{IsCrowded, IsFailure, IsMended, IsSoundAs, IsTornAs, MendAlike, MendsFlash, MendsLike, OnFlashFailed, OnLacking};
+ghost use Rattle.coffee_mend.specs.Superseding.{IsTornOf};
 ghost use Rattle.coffee_mend.specs.declared.mending.MendError.TheVariants.{Unsettled as StrangeImage};
+ghost use Rattle.coffee_merge.specs.Holding.{has_shape};
 
+use crate::completing::complete;
 use crate::joining::join_file;
 use crate::owner::owner_beside;
 use crate::settling::settle;
+use crate::superseding::supersede;
 use afl_base::{Failed, FileError, Flash};
 use coffee_find::{TornRecord, Trouble};
+use coffee_layout::FileAt;
 
 /// Why an image was not mended.
 #[derive(Clone, Copy, PartialEq, Eq, Debug)]
@@ -45,31 +53,108 @@ pub fn mend<F: Flash>(flash: &mut F, trouble: &Trouble) -> Result<(), MendError>
     };
     match trouble.torn {
         None => Ok(()),
-        Some(torn) => join_torn(flash, &torn),
+        Some(torn) => mend_torn(flash, &torn),
+    }
+}
+
+// Puts right an image that is sound but for a torn record.
+fn mend_torn<F: Flash>(flash: &mut F, torn: &TornRecord) -> Result<(), MendError>
+    requires torn { HasRecord (length (F.image flash.old)) (Some torn.now) }
+    ensures mended { IsTrue F.tells → IsSoundBut (F.image flash.old) (Some torn.now)
+        → OnOk result (IsSoundAs (F.image flash.old) (F.image flash.new)) }
+    ensures space { IsTrue F.tells → IsSoundBut (F.image flash.old) (Some torn.now)
+        → IfErr result (λ e. OnLacking e (λ need.
+        IsTornAs (F.image flash.old) (F.image flash.new) torn.now.log.0 torn.now.place need)) }
+    ensures settles { IsTrue F.tells → IsSoundBut (F.image flash.old) (Some torn.now)
+        → result ≢ Err StrangeImage }
+    ensures cut { IsTrue F.tells → IsTrue F.cuts → IsSoundBut (F.image flash.old) (Some torn.now)
+        → IfErr result (λ e. OnFlashFailed e (MendsLike (F.image flash.old) (F.image flash.new))) }
+    ensures frame { MendsFlash F.image F.lent F.reads F.faults flash.old flash.new result }
+{
+    flash.sectors();
+    let mut region = [0; 128];
+    match owner_beside(flash, torn, &mut region) {
+        Err(Failed) => Err(MendError::Failed),
+        Ok(None) => Err(MendError::Unsettled),
+        Ok(Some(file)) => if torn.used < 29 && 1 <= file.size {
+            supersede_torn(flash, torn, &region, &file)
+        } else {
+            complete_or_join(flash, torn, &file)
+        },
+    }
+}
+
+// Supersedes a torn record that is not the last of its log.
+fn supersede_torn<F: Flash>(
+    flash: &mut F,
+    torn: &TornRecord,
+    region: &[u8; 128],
+    file: &FileAt,
+) -> Result<(), MendError>
+    requires torn { HasRecord (length (F.image flash.old)) (Some torn.now) }
+    requires low { torn.now.used < 29 }
+    requires some { 1 ≤ file.now.size }
+    ensures mended { IsTrue F.tells → IsSoundBut (F.image flash.old) (Some torn.now)
+        → IsFirstRegion (without_record (F.image flash.old) (Some torn.now)) torn.now.log file.now region.now
+        → OnOk result (IsSoundAs (F.image flash.old) (F.image flash.new)) }
+    ensures failures { IfErr result (λ e. IsFailure e) }
+    ensures cut { IsTrue F.tells → IsTrue F.cuts → IsSoundBut (F.image flash.old) (Some torn.now)
+        → IsFirstRegion (without_record (F.image flash.old) (Some torn.now)) torn.now.log file.now region.now
+        → IfErr result (λ e. OnFlashFailed e (MendsLike (F.image flash.old) (F.image flash.new))) }
+    ensures frame { MendsFlash F.image F.lent F.reads F.faults flash.old flash.new result }
+{
+    flash.sectors();
+    match supersede(flash, torn, region) {
+        Err(Failed) => Err(MendError::Failed),
+        Ok(()) => Ok(()),
+    }
+}
+
+// Completes a torn record as one that changes nothing, or else puts its file together with its log.
+fn complete_or_join<F: Flash>(
+    flash: &mut F,
+    torn: &TornRecord,
+    file: &FileAt,
+) -> Result<(), MendError>
+    requires torn { HasRecord (length (F.image flash.old)) (Some torn.now) }
+    requires fits { FitsIn (pages_of (F.image flash.old)) file.now }
+    requires shape { has_shape file.now.kind file.now.pages ≡ true }
+    ensures joined { IsTrue F.tells → IsTornOf (F.image flash.old) torn.now file.now
+        → OnOk result (IsSoundAs (F.image flash.old) (F.image flash.new)) }
+    ensures space { IsTrue F.tells → IsTornOf (F.image flash.old) torn.now file.now
+        → IfErr result (λ e. OnLacking e (λ need.
+        IsTornAs (F.image flash.old) (F.image flash.new) torn.now.log.0 torn.now.place need)) }
+    ensures tried { IsTrue F.tells → IfErr result (λ e. OnLacking e (λ need.
+        LackBits (F.image flash.old) torn.now.place file.now (regions_below file.now.size))) }
+    ensures settles { result ≢ Err StrangeImage }
+    ensures cut { IsTrue F.tells → IsTrue F.cuts → IsTornOf (F.image flash.old) torn.now file.now
+        → IfErr result (λ e. OnFlashFailed e (MendsLike (F.image flash.old) (F.image flash.new))) }
+    ensures frame { MendsFlash F.image F.lent F.reads F.faults flash.old flash.new result }
+{
+    match complete(flash, torn, file) {
+        Err(Failed) => Err(MendError::Failed),
+        Ok(true) => Ok(()),
+        Ok(false) => join_torn(flash, torn, file),
     }
 }
 
 // Puts a file together with its log, of which a record is torn.
-fn join_torn<F: Flash>(flash: &mut F, torn: &TornRecord) -> Result<(), MendError>
+fn join_torn<F: Flash>(flash: &mut F, torn: &TornRecord, file: &FileAt) -> Result<(), MendError>
     requires torn { HasRecord (length (F.image flash.old)) (Some torn.now) }
-    ensures joined { IsTrue F.tells → IsTornAt (F.image flash.old) torn.now.log.0 torn.now.place
-        → OnOk result (IsSoundAs (zeros_at (F.image flash.old) torn.now.place 128) (F.image flash.new)) }
-    ensures space { IsTrue F.tells → IsTornAt (F.image flash.old) torn.now.log.0 torn.now.place
+    requires fits { FitsIn (pages_of (F.image flash.old)) file.now }
+    requires shape { has_shape file.now.kind file.now.pages ≡ true }
+    ensures joined { IsTrue F.tells → IsTornOf (F.image flash.old) torn.now file.now
+        → OnOk result (IsSoundAs (F.image flash.old) (F.image flash.new)) }
+    ensures space { IsTrue F.tells → IsTornOf (F.image flash.old) torn.now file.now
         → IfErr result (λ e. OnLacking e (λ need.
         IsTornAs (F.image flash.old) (F.image flash.new) torn.now.log.0 torn.now.place need)) }
-    ensures settles { IsTrue F.tells → IsTornAt (F.image flash.old) torn.now.log.0 torn.now.place
-        → result ≢ Err StrangeImage }
-    ensures cut { IsTrue F.tells → IsTrue F.cuts → IsTornAt (F.image flash.old) torn.now.log.0 torn.now.place
-        → IfErr result (λ e. OnFlashFailed e
-        (MendsLike (zeros_at (F.image flash.old) torn.now.place 128) (F.image flash.new))) }
+    ensures settles { result ≢ Err StrangeImage }
+    ensures cut { IsTrue F.tells → IsTrue F.cuts → IsTornOf (F.image flash.old) torn.now file.now
+        → IfErr result (λ e. OnFlashFailed e (MendsLike (F.image flash.old) (F.image flash.new))) }
     ensures frame { MendsFlash F.image F.lent F.reads F.faults flash.old flash.new result }
 {
     flash.sectors();
-    match owner_beside(flash, torn.log, torn.place) {
-        Err(Failed) => Err(MendError::Failed),
-        Ok(None) => Err(MendError::Unsettled),
-        Ok(Some(file)) => came_of(join_file(flash, &file, torn.log)),
-    }
+    came_of(join_file(flash, file, torn.log))
 }
 
 // What joining came to.

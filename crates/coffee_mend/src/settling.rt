@@ -1,17 +1,15 @@
 ghost use Rattle.std.specs.Prelude.{◌≡◌, ◌*◌, length, IsTrue, OnErr, OnOk};
 ghost use Rattle.afl_base.specs.Keeping.{Programs};
 ghost use Rattle.coffee_cuts.specs.Cuts.{settled};
-ghost use Rattle.coffee_find.specs.Found.{HasLogPage, HasPage, IsInFlash, meant};
-ghost use Rattle.coffee_layout.specs.Files.{log_of};
+ghost use Rattle.coffee_find.specs.Found.{HasPage, IsInFlash, meant};
 ghost use Rattle.coffee_mend.specs.Settling.{IsCutSettling};
-ghost use Rattle.coffee_merge.specs.CutMarks.{IsCutObsolete, IsOneOf};
-ghost use Rattle.coffee_merge.specs.Flags.{flagged, obsoleted};
+ghost use Rattle.coffee_merge.specs.CutMarks.{IsOneOf};
+ghost use Rattle.coffee_merge.specs.Flags.{flagged};
 
 use afl_base::{Failed, Flash, PageId};
-use coffee_find::{PlacedFile, UnderWay};
-use coffee_header::Header;
+use coffee_find::UnderWay;
 
-/// Puts in order what was under way: by one write, or by two where a file has an old extent with a log.
+/// Puts in order what was under way, by one write.
 pub(crate) fn settle<F: Flash>(flash: &mut F, under_way: &UnderWay) -> Result<(), Failed>
     requires inside { IsInFlash (length (F.image flash.old)) under_way.now }
     ensures settled { IsTrue F.tells → OnOk result
@@ -27,35 +25,7 @@ pub(crate) fn settle<F: Flash>(flash: &mut F, under_way: &UnderWay) -> Result<()
         UnderWay::Erasing { sector, page: _ } => flash.erase(*sector),
         UnderWay::Unnamed { log } => mark(flash, *log, 4),
         UnderWay::Naming { page } => mark(flash, *page, 8),
-        UnderWay::Replacing { old, new: _ } => retire(flash, old),
-    }
-}
-
-// Makes an old extent obsolete, and then its log.
-fn retire<F: Flash>(flash: &mut F, old: &PlacedFile) -> Result<(), Failed>
-    requires page { HasPage (length (F.image flash.old)) old.now.page.0 }
-    requires log { HasLogPage (length (F.image flash.old)) (log_of old.now.header) }
-    ensures retired { IsTrue F.tells → OnOk result
-        (F.image flash.new ≡ obsoleted (F.image flash.old) old.now.page.0 (log_of old.now.header)) }
-    ensures cut { IsTrue F.tells → IsTrue F.cuts → OnErr result
-        (IsCutObsolete (F.image flash.old) (F.image flash.new) old.now.page.0 (log_of old.now.header)) }
-    ensures frame { Programs F.image F.lent F.reads F.faults flash.old flash.new result }
-{
-    mark(flash, old.page, 4)?;
-    match log_of(&old.header) {
-        None => Ok(()),
-        Some(log) => mark(flash, log, 4),
-    }
-}
-
-// The first page of a file's log.
-fn log_of(header: &Header) -> Option<PageId>
-    ensures { result ≡ log_of header.now }
-{
-    if header.log_page == 0 {
-        None
-    } else {
-        Some(PageId(header.log_page - 1))
+        UnderWay::Replacing { dropped, kept: _ } => mark(flash, dropped.page, 4),
     }
 }
 

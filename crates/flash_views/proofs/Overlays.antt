@@ -10,7 +10,8 @@ use Rattle.afl_base.specs.declared.ids.SectorId.{SectorId}
 use Rattle.afl_base.proofs.Images.{length_or_at, length_range, length_zeros_at, or_at_before, or_at_behind, or_at_inside, range_at, range_same, zeros_at_before, zeros_at_behind, zeros_at_inside}
 use Rattle.flash_views.specs.declared.overlay.Mark.{Mark}
 use Rattle.flash_views.specs.declared.overlay.Overlay.{Overlay}
-use Rattle.flash_views.specs.Views.{IsView, FitsImage, StandAt, blank_code, blanked, code, emptied, mark_code, with_mark, overlaid, sector_code, spoilt}
+use Rattle.flash_views.specs.declared.overlay.Two.{Two}
+use Rattle.flash_views.specs.Views.{IsView, FitsImage, StandAt, blank_code, blanked, cleared, code, emptied, mark_code, with_mark, overlaid, sector_code, spoilt, two_code}
 
 -- ---- lengths
 
@@ -33,9 +34,22 @@ pub length_written : (image : List ℕ) (o : Overlay) → FitsImage (length imag
 length_written image o i =
     length_emptied (with_mark (with_mark image o.first) o.second) o.sector (λ s e. let l = i.sector s e in omega (arith, l, length_marks image o)) ∙ length_marks image o
 
+pub length_cleared : (image : List ℕ) (o : Option Two) → ((t : Two) → o ≡ Some t → t.records + 256 ≤ length image) → ((t : Two) → o ≡ Some t → t.number + 2 ≤ length image) → length (cleared image o) ≡ length image
+length_cleared image None records number = refl
+length_cleared image (Some t) records number =
+    let long = length_zeros_at image t.records 256 (records t refl) in
+    let n = number t refl in
+    length_zeros_at (zeros_at image t.records 256) t.number 2 (omega (arith, long, n)) ∙ long
+
+pub length_beside : (image : List ℕ) (o : Overlay) → FitsImage (length image) o → length (blanked (emptied (with_mark (with_mark image o.first) o.second) o.sector) o.blank) ≡ length image
+length_beside image o i =
+    length_blanked (emptied (with_mark (with_mark image o.first) o.second) o.sector) o.blank (λ p e. let l = i.blank p e in omega (arith, l, length_written image o i)) ∙ length_written image o i
+
 pub length_overlaid : (image : List ℕ) (o : Overlay) → FitsImage (length image) o → length (overlaid image o) ≡ length image
 length_overlaid image o i =
-    length_blanked (emptied (with_mark (with_mark image o.first) o.second) o.sector) o.blank (λ p e. let l = i.blank p e in omega (arith, l, length_written image o i)) ∙ length_written image o i
+    length_cleared (blanked (emptied (with_mark (with_mark image o.first) o.second) o.sector) o.blank) o.two
+    (λ t e. let l = i.records t e in omega (arith, l, length_beside image o i)) (λ t e. let l = i.number t e in omega (arith, l, length_beside image o i))
+    ∙ length_beside image o i
 
 -- ---- bytes that stand in an image
 
@@ -186,43 +200,57 @@ blank_same None (Some t) e = cc
 blank_same (Some s) None e = cc
 blank_same (Some s) (Some t) e = cc
 
+two_same : (s t : Option Two) → two_code s ≡ two_code t → s ≡ t
+two_same None None e = refl
+two_same None (Some t) e = cc
+two_same (Some s) None e = cc
+two_same (Some s) (Some t) e =
+    let records : s.records ≡ t.records = cc in
+    let number : s.number ≡ t.number = cc in
+    ap (λ x. Some (record { records = x; number = s.number })) records ∙ ap (λ x. Some (record { records = t.records; number = x })) number
+
+length_blank : (s : Option ℕ) → length (blank_code s) ≡ 2
+length_blank None = refl
+length_blank (Some s) = refl
+
+length_two : (s : Option Two) → length (two_code s) ≡ 3
+length_two None = refl
+length_two (Some s) = refl
+
 pub code_same : (o p : Overlay) → code o ≡ code p → o ≡ p
 code_same o p e =
-    let first = fronts_same (mark_code o.first) (mark_code o.second ++ (sector_code o.sector ++ blank_code o.blank)) (mark_code p.first) (mark_code p.second ++ (sector_code p.sector ++ blank_code p.blank)) e (length_mark p.first ∙ sym (length_mark o.first)) in
-    let second = fronts_same (mark_code o.second) (sector_code o.sector ++ blank_code o.blank) (mark_code p.second) (sector_code p.sector ++ blank_code p.blank) first.1 (length_mark p.second ∙ sym (length_mark o.second)) in
-    let sector = fronts_same (sector_code o.sector) (blank_code o.blank) (sector_code p.sector) (blank_code p.blank) second.1 (length_sector p.sector ∙ sym (length_sector o.sector)) in
+    let first = fronts_same (mark_code o.first) (mark_code o.second ++ (sector_code o.sector ++ (blank_code o.blank ++ two_code o.two))) (mark_code p.first) (mark_code p.second ++ (sector_code p.sector ++ (blank_code p.blank ++ two_code p.two))) e (length_mark p.first ∙ sym (length_mark o.first)) in
+    let second = fronts_same (mark_code o.second) (sector_code o.sector ++ (blank_code o.blank ++ two_code o.two)) (mark_code p.second) (sector_code p.sector ++ (blank_code p.blank ++ two_code p.two)) first.1 (length_mark p.second ∙ sym (length_mark o.second)) in
+    let sector = fronts_same (sector_code o.sector) (blank_code o.blank ++ two_code o.two) (sector_code p.sector) (blank_code p.blank ++ two_code p.two) second.1 (length_sector p.sector ∙ sym (length_sector o.sector)) in
+    let blank = fronts_same (blank_code o.blank) (two_code o.two) (blank_code p.blank) (two_code p.two) sector.1 (length_blank p.blank ∙ sym (length_blank o.blank)) in
     let a : o.first ≡ p.first = mark_same o.first p.first first.0 in
     let b : o.second ≡ p.second = mark_same o.second p.second second.0 in
     let c : o.sector ≡ p.sector = sector_same o.sector p.sector sector.0 in
-    let d : o.blank ≡ p.blank = blank_same o.blank p.blank sector.1 in
-    ap (λ x. record { first = x; second = o.second; sector = o.sector; blank = o.blank }) a
-    ∙ ap (λ x. record { first = p.first; second = x; sector = o.sector; blank = o.blank }) b
-    ∙ ap (λ x. record { first = p.first; second = p.second; sector = x; blank = o.blank }) c
-    ∙ ap (λ x. record { first = p.first; second = p.second; sector = p.sector; blank = x }) d
+    let d : o.blank ≡ p.blank = blank_same o.blank p.blank blank.0 in
+    let f : o.two ≡ p.two = two_same o.two p.two blank.1 in
+    ap (λ x. record { first = x; second = o.second; sector = o.sector; blank = o.blank; two = o.two }) a
+    ∙ ap (λ x. record { first = p.first; second = x; sector = o.sector; blank = o.blank; two = o.two }) b
+    ∙ ap (λ x. record { first = p.first; second = p.second; sector = x; blank = o.blank; two = o.two }) c
+    ∙ ap (λ x. record { first = p.first; second = p.second; sector = p.sector; blank = x; two = o.two }) d
+    ∙ ap (λ x. record { first = p.first; second = p.second; sector = p.sector; blank = p.blank; two = x }) f
 
-pub length_code : (o p : Overlay) → length (code o) ≡ length (code p)
-length_code o p =
+code_long : (o : Overlay) → length (code o) ≡ 13
+code_long o =
     omega (
       arith,
-      length-append (mark_code o.first) (mark_code o.second ++ (sector_code o.sector ++ blank_code o.blank)),
-      length-append (mark_code o.second) (sector_code o.sector ++ blank_code o.blank),
-      length-append (sector_code o.sector) (blank_code o.blank),
-      length-append (mark_code p.first) (mark_code p.second ++ (sector_code p.sector ++ blank_code p.blank)),
-      length-append (mark_code p.second) (sector_code p.sector ++ blank_code p.blank),
-      length-append (sector_code p.sector) (blank_code p.blank),
+      length-append (mark_code o.first) (mark_code o.second ++ (sector_code o.sector ++ (blank_code o.blank ++ two_code o.two))),
+      length-append (mark_code o.second) (sector_code o.sector ++ (blank_code o.blank ++ two_code o.two)),
+      length-append (sector_code o.sector) (blank_code o.blank ++ two_code o.two),
+      length-append (blank_code o.blank) (two_code o.two),
       length_mark o.first,
       length_mark o.second,
       length_sector o.sector,
       length_blank o.blank,
-      length_mark p.first,
-      length_mark p.second,
-      length_sector p.sector,
-      length_blank p.blank,
+      length_two o.two,
     )
-  where
-    length_blank : (s : Option ℕ) → length (blank_code s) ≡ 2
-    length_blank None = refl
-    length_blank (Some s) = refl
+
+pub length_code : (o p : Overlay) → length (code o) ≡ length (code p)
+length_code o p = code_long o ∙ sym (code_long p)
 
 -- ---- the flash in a view
 

@@ -8,5 +8,5 @@ mod overlay;
 mod view;
 
 pub use handed::Handed;
-pub use overlay::{Mark, Overlay};
+pub use overlay::{Mark, Overlay, Two};
 pub use view::View;

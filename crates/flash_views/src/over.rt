@@ -1,9 +1,10 @@
 ghost use Rattle.std.specs.Prelude.{◌≡◌, ℕ, ◌+◌, ◌*◌, ◌≤◌, List, [], ◌∷◌, length, Some};
 ghost use Rattle.afl_base.specs.Image.{or_at, zeros_at};
 ghost use Rattle.afl_base.specs.declared.ids.SectorId.{SectorId as Sector};
-ghost use Rattle.flash_views.specs.Views.{FitsImage, StandAt, blanked, emptied, with_mark, overlaid};
+ghost use Rattle.flash_views.specs.declared.overlay.Two.{Two as TwoRecords};
+ghost use Rattle.flash_views.specs.Views.{FitsImage, StandAt, blanked, cleared, emptied, with_mark, overlaid};
 
-use crate::overlay::{Mark, Overlay};
+use crate::overlay::{Mark, Overlay, Two};
 use afl_base::{SECTOR_SIZE, SectorId};
 
 // Each function here is given the bytes that stand in an image from `place` on, and makes of them what
@@ -19,6 +20,7 @@ pub(crate) fn put_over(overlay: &Overlay, place: usize, into: &mut [u8])
     put_mark(overlay.second, place, into);
     put_sector(overlay.sector, place, into);
     put_blank(overlay.blank, place, into);
+    put_two(overlay.two, place, into);
 }
 
 // A mark.
@@ -55,6 +57,19 @@ fn put_blank(blank: Option<u32>, place: usize, into: &mut [u8])
 {
     if let Some(blank) = blank {
         put_zeros(blank as usize, 128, place, into);
+    }
+}
+
+// Two records and a number that are zero.
+fn put_two(two: Option<Two>, place: usize, into: &mut [u8])
+    requires fits { place + length into.old ≤ 16777216 }
+    ensures over { (image : List ℕ) → ((t : TwoRecords) → two ≡ Some t → t.records + 256 ≤ length image)
+        → ((t : TwoRecords) → two ≡ Some t → t.number + 2 ≤ length image)
+        → StandAt image place into.old → StandAt (cleared image two) place into.new }
+{
+    if let Some(two) = two {
+        put_zeros(two.records as usize, 256, place, into);
+        put_zeros(two.number as usize, 2, place, into);
     }
 }
 

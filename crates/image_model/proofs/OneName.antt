@@ -4,12 +4,11 @@ use Rattle.std.specs.List.{Contains}
 use Rattle.afl_base.proofs.Images.{length_or_at, length_zeros_at}
 use Rattle.coffee_cuts.specs.Cuts.{IsFound, MendsTo, UnderWay, Nothing, Beginning, Building, Erasing, Unnamed, Naming, Replacing, settled}
 use Rattle.coffee_cuts.proofs.SettledRules.{settled_kept}
-use Rattle.coffee_layout.specs.Files.{NamedFile, Placed, files_in, log_of, named_file}
+use Rattle.coffee_layout.specs.Files.{NamedFile, Placed, files_in, named_file}
 use Rattle.coffee_layout.specs.Rules.{first_repeated}
 use Rattle.coffee_layout.specs.Tiling.{units_of}
 use Rattle.coffee_merge.specs.Flags.{flagged}
 use Rattle.coffee_merge.proofs.SoundEntries.{IsAt, at_same, one_place}
-use Rattle.coffee_cuts.proofs.TwoMarks.{obsoleted_long as gone_long}
 
 -- ---- the length of what is settled
 
@@ -23,7 +22,7 @@ settled_long image (Building page) f = flagged_long image page 5
 settled_long image (Erasing sector page) f = length_zeros_at image (4096 * sector) 4096 f.inside
 settled_long image (Unnamed log) f = flagged_long image log 4
 settled_long image (Naming page) f = flagged_long image page 8
-settled_long image (Replacing old new) f = gone_long image old.page (log_of old.header)
+settled_long image (Replacing dropped kept) f = flagged_long image dropped.page 4
 
 -- ---- names
 

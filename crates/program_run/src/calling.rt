@@ -3,12 +3,12 @@
 #![tactic(auto)]
 
 ghost use Rattle.std.specs.Prelude.{◌≡◌, ◌⊎◌, ◌↔◌, IfSome, IsTrue, None, Some};
-ghost use Rattle.antelope_run.specs.Promise.{IsStatus, LeftBy};
-ghost use Rattle.run_collect.specs.Collects.{Collects, IsCollectStatus};
-ghost use Rattle.program_run.specs.Upkeep.{IsUpkeepStatus, Keeps, upkeep_of};
+ghost use Rattle.antelope_run.specs.Promise.{IsRun, IsStatus, moment};
+ghost use Rattle.run_collect.specs.Collects.{BreaksOff, Collects, IsCollectStatus};
+ghost use Rattle.program_run.specs.Upkeep.{BreaksOffUpkeep, IsUpkeepStatus, Keeps, upkeep_of};
 ghost use Rattle.run_repair.specs.Checks.{Checks, IsCheckStatus};
+ghost use Rattle.run_repair.specs.Mends.{StaysOrMends};
 ghost use Rattle.run_repair.specs.Repairs.{IsRepairStatus, Repairs};
-ghost use Rattle.run_model.specs.Runs.{world};
 ghost use Rattle.run_words.specs.declared.words.Form.{Form};
 ghost use Rattle.run_words.specs.Words.{form_of};
 
@@ -29,11 +29,13 @@ pub fn carry_out<F: Flash, S: Source, K: Sink>(
     ensures only { IsStatus result.0 ⊎ IsUpkeepStatus result.0 }
     ensures words { (result.0 ≡ 1) ↔ ((form_of words.now ≡ None) × (upkeep_of words.now ≡ None)) }
     ensures ran { IsTrue F.tells → upkeep_of words.now ≡ None
-        → (form : Form) → form_of words.now ≡ Some form → LeftBy result.0 form
-        (world (F.image flash) (S.left script.old) (K.held out.old))
-        (world (F.image result.1) (S.left script.new) (K.held out.new)) }
+        → (form : Form) → form_of words.now ≡ Some form → IsRun form F.cuts result.0
+        (moment F.Flash S.Source K.Sink flash script.old out.old)
+        (moment F.Flash S.Source K.Sink result.1 script.new out.new) }
     ensures kept { IsTrue F.tells → IfSome (upkeep_of words.now) (λ upkeep.
         Keeps upkeep result.0 (F.image flash) (F.image result.1) (K.held out.old) (K.held out.new)) }
+    ensures cut { IsTrue F.tells → IsTrue F.cuts → result.0 ≡ 4 → IfSome (upkeep_of words.now) (λ upkeep.
+        BreaksOffUpkeep upkeep (F.image flash) (F.image result.1)) }
 {
     match upkeep_of(words) {
         Some(upkeep) => {
@@ -55,9 +57,9 @@ fn run<F: Flash, S: Source, K: Sink>(
 ) -> (u8, F)
     ensures only { IsStatus result.0 }
     ensures words { (result.0 ≡ 1) ↔ (form_of words.now ≡ None) }
-    ensures ran { IsTrue F.tells → (form : Form) → form_of words.now ≡ Some form → LeftBy result.0 form
-        (world (F.image flash) (S.left script.old) (K.held out.old))
-        (world (F.image result.1) (S.left script.new) (K.held out.new)) }
+    ensures ran { IsTrue F.tells → (form : Form) → form_of words.now ≡ Some form → IsRun form F.cuts result.0
+        (moment F.Flash S.Source K.Sink flash script.old out.old)
+        (moment F.Flash S.Source K.Sink result.1 script.new out.new) }
 {
     top(words, script, out, flash)
 }
@@ -67,6 +69,8 @@ fn keep<F: Flash, K: Sink>(upkeep: Upkeep, out: &mut K, flash: &mut F) -> u8
     ensures only { IsUpkeepStatus result }
     ensures kept { IsTrue F.tells → Keeps upkeep result
         (F.image flash.old) (F.image flash.new) (K.held out.old) (K.held out.new) }
+    ensures cut { IsTrue F.tells → IsTrue F.cuts → result ≡ 4
+        → BreaksOffUpkeep upkeep (F.image flash.old) (F.image flash.new) }
 {
     match upkeep {
         Upkeep::Repair => repaired(out, flash),
@@ -80,6 +84,8 @@ fn repaired<F: Flash, K: Sink>(out: &mut K, flash: &mut F) -> u8
     ensures only { IsRepairStatus result }
     ensures repaired { IsTrue F.tells
         → Repairs result (F.image flash.old) (F.image flash.new) (K.held out.old) (K.held out.new) }
+    ensures cut { IsTrue F.tells → IsTrue F.cuts → result ≡ 4
+        → StaysOrMends (F.image flash.old) (F.image flash.new) }
 {
     repair(out, flash)
 }
@@ -98,6 +104,8 @@ fn collected<F: Flash, K: Sink>(out: &mut K, flash: &mut F) -> u8
     ensures only { IsCollectStatus result }
     ensures collected { IsTrue F.tells
         → Collects result (F.image flash.old) (F.image flash.new) (K.held out.old) (K.held out.new) }
+    ensures broken_off { IsTrue F.tells → IsTrue F.cuts → result ≡ 4
+        → BreaksOff (F.image flash.old) (F.image flash.new) }
 {
     collect(out, flash)
 }

@@ -11,20 +11,20 @@ use Rattle.coffee_layout.specs.Files.{files_of}
 use Rattle.coffee_layout.specs.Marks.{IsCramped}
 use Rattle.coffee_layout.specs.Rules.{broken_image}
 use Rattle.coffee_layout.specs.Tiling.{units_of}
-use Rattle.coffee_mend.specs.Mended.{IsCrowded, IsMended, MendAlike}
+use Rattle.coffee_mend.specs.Mended.{IsCrowded, MendAlike}
 use Rattle.coffee_volume.specs.Cuts.{MendsToFiles}
 use Rattle.coffee_volume.specs.Mounting.{HasEach, HasOnly, roomless_file}
 use Rattle.db_model.specs.Database.{Database}
 use Rattle.image_model.specs.Images.{IsSound, base, files_of_image}
 use Rattle.image_model.specs.Mending.{ImageMendsTo, ImageReadsAs}
-use Rattle.image_model.proofs.OneBase.{one_base, own_files, sound_mends, table_mends}
+use Rattle.image_model.proofs.OneBase.{own_files}
 use Rattle.stored.specs.CutTables.{IsCutTable}
 use Rattle.stored.specs.Mended.{mended_base}
 use Rattle.stored_mend.specs.Interrupted.{IsCutState}
 use Rattle.stored_mend.specs.Mending.{IsPutRight}
 use Rattle.stored_mend.proofs.PutRight.{put_right_same}
 use Rattle.run_repair.specs.Findings.{IsLeftByCut, settled_image}
-use Rattle.run_repair.specs.Mends.{IsRestored, MendsButLacks, MendsPutRight, OnFault, OnSpaceless, StillMends, StillMendsButLacks}
+use Rattle.run_repair.specs.Mends.{MendsButLacks, MendsPutRight, OnFault, OnSpaceless, StillMends, StillMendsButLacks}
 use Rattle.run_repair.specs.Outcomes.{AreInterrupted, IsInterrupted, IsPutRightTimes, RepairsTo}
 use Rattle.run_repair.specs.Repairs.{Repairs}
 use Rattle.run_repair.specs.declared.came.Hindrance.{Hindrance}
@@ -54,7 +54,7 @@ state_mends state image db need sound each only cut cramped = record {
 -- ---- the files of an image
 
 -- an image that mends to the files that another mends to mends to the same tables
-alike_files : (old new : List ℕ) (files : Table) (sectors : ℕ) → length old ≡ 4096 * sectors → MendsToFiles old files → MendAlike old new → MendsToFiles new files
+pub alike_files : (old new : List ℕ) (files : Table) (sectors : ℕ) → length old ≡ 4096 * sectors → MendsToFiles old files → MendAlike old new → MendsToFiles new files
 alike_files old new files sectors size m a =
     let same : m.named ≡ a.files = one_list old m.named a.files sectors size m.mends a.mends in
     record {
@@ -93,14 +93,6 @@ crowded_mends old new trouble sectors need size inside left c = record {
 
 -- ---- the database in them
 
--- what is so of the database of an image is so of that of one whose files are mended
-pub through_mended : (old mid : List ℕ) (Is : Database → Type 0) (sectors : ℕ) → length mid ≡ 4096 * sectors → IsMended old mid → ImageReadsAs mid Is → ImageReadsAs old Is
-through_mended old mid Is sectors size m r = record {
-  files = files_of_image mid;
-  mends_to = table_mends old mid m.files m.mends m.kept m.only;
-  is = subst Is (one_base mid r.files (files_of_image mid) sectors size r.mends_to (own_files mid m.sound)) r.is;
-}
-
 -- what is so of the database of the files of an image that keeps the rules is so of that which it mends to
 pub through_own : (image : List ℕ) (files : Table) (Is : Database → Type 0) → broken_image image ≡ None → files ≡ files_of_image image → Is (mended_base files) → ImageReadsAs image Is
 through_own image files Is sound same is = record {
@@ -135,32 +127,6 @@ own_stays old new sound cut same = record {
     is = put_right_same (mended_base (files_of_image old)) (mended_base (files_of_image old)) refl;
   });
 }
-
-pub spaceless_through : (old mid new : List ℕ) (why : Hindrance) (sectors : ℕ) → length mid ≡ 4096 * sectors → IsMended old mid → OnSpaceless why (StillMendsButLacks mid new) → OnSpaceless why (StillMendsButLacks old new)
-spaceless_through old mid new (Spaceless need) sectors size m l = through_mended old mid (λ db. MendsButLacks db new need) sectors size m l
-spaceless_through old mid new (Unsettled bad) sectors size m l = tt
-spaceless_through old mid new Failed sectors size m l = tt
-
-pub fault_through : (old mid new : List ℕ) (why : Hindrance) (sectors : ℕ) → length mid ≡ 4096 * sectors → IsMended old mid → OnFault why (StillMends mid new) → OnFault why (StillMends old new)
-fault_through old mid new (Spaceless need) sectors size m l = tt
-fault_through old mid new (Unsettled bad) sectors size m l = tt
-fault_through old mid new Failed sectors size m l = through_mended old mid (λ db. MendsPutRight db new) sectors size m l
-
--- an image that is restored still mends to what it was restored from
-pub restored_mends : (old mid late new : List ℕ) (sectors : ℕ) → length late ≡ 4096 * sectors → IsMended old mid → IsRestored (files_of_image mid) late → new ≡ late → StillMends old new
-restored_mends old mid late new sectors size m restored same =
-    let sound : IsSound new = subst IsSound (sym same) restored.sound in
-    let n = sound_mends new sectors (ap length same ∙ size) sound in
-    record {
-      files = files_of_image mid;
-      mends_to = table_mends old mid m.files m.mends m.kept m.only;
-      is = record {
-        files = n.files;
-        mends_to = n.mends_to;
-        cut = n.cut;
-        is = subst (IsPutRight (mended_base (files_of_image mid))) (ap base (sym same) ∙ sym n.is) restored.base_is;
-      };
-    }
 
 -- what is so of the error is so of the answer
 pub on_error : {T E : Type 0} (came : Result T E) (why : E) (P : E → Type 0) → came ≡ Err why → P why → IfErr came P

@@ -20,7 +20,7 @@ use Rattle.stored.specs.Sound.{BreaksFirst, IsSoundTable}
 use Rattle.stored_mend.specs.Mending.{IsPutRight}
 use Rattle.stored_mend.proofs.PutRight.{put_right_same}
 use Rattle.run_repair.specs.Findings.{MayBeCut}
-use Rattle.run_repair.specs.Mends.{IsHindered, IsRestored, MendsButLacks, MendsPutRight, OnSpaceless, StaysOrMends, StillMendsButLacks}
+use Rattle.run_repair.specs.Mends.{IsHindered, MendsButLacks, MendsPutRight, OnSpaceless, StaysOrMends, StillMendsButLacks}
 use Rattle.run_repair.specs.Outcomes.{RepairsTo}
 use Rattle.run_repair.specs.Repairs.{Leaves, Repairs, database_in, status_after}
 use Rattle.run_repair.specs.declared.came.Came.{Came}
@@ -39,19 +39,6 @@ left_hindered old new came why unsound cut hindered lacking is = subst (Leaves o
     by_reason (Spaceless need) h l = (unsound, cut, l)
     by_reason (Unsettled bad) h l = absurd h
     by_reason Failed h l = inr (unsound, cut)
-
--- an image that is repaired stands for the database that its files mend to
-pub left_repaired : (old mid late new : List ℕ) → (IsSound old → ⊥) → MayBeCut old → IsMended old mid → IsRestored (files_of_image mid) late → new ≡ late → Leaves old new (Ok Repaired)
-left_repaired old mid late new unsound cut m restored same = (
-  unsound,
-  cut,
-  subst IsSound (sym same) restored.sound,
-  record {
-    files = files_of_image mid;
-    mends_to = table_mends old mid m.files m.mends m.kept m.only;
-    is = subst (λ i. IsPutRight (mended_base (files_of_image mid)) (base i)) (sym same) restored.base_is;
-  },
-)
 
 -- ---- a volume over an image
 

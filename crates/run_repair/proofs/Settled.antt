@@ -1,19 +1,22 @@
 -- An image once what a cut left of its files is settled, and whether a cut can have left its database.
-use Rattle.std.proofs.Common.{◌≡◌, ℕ, ◌+◌, ◌*◌, ◌≤◌, Bool, true, false, List, length, Option, None, Some, refl, ap, sym, subst, ◌∙◌, arith}
+use Rattle.std.proofs.Common.{◌≡◌, inl, inr, ℕ, ◌+◌, ◌*◌, ◌≤◌, Bool, true, false, List, length, Option, None, Some, if◌then◌else◌, refl, ap, sym, subst, ◌∙◌, arith}
 use Rattle.std.specs.List.{Contains}
 use Rattle.std.specs.Prelude.{is_some, ⊤, Result, Err, IfErr}
 use Rattle.afl_base.specs.Files.{IsNamed, IsUnnamed, Table}
 use Rattle.afl_base.specs.Image.{zeros_at}
-use Rattle.coffee_cuts.specs.Cuts.{settled}
-use Rattle.coffee_find.specs.Found.{HasRecord, IsCutBy, IsTroubleInside, MendsToNone, meant}
+use Rattle.afl_base.specs.declared.ids.PageId.{PageId}
+use Rattle.coffee_cuts.specs.Cuts.{IsSettled, IsSuperseding, settled, without_two}
+use Rattle.coffee_cuts.proofs.Superseding.{superseding_files}
+use Rattle.coffee_cuts.proofs.TornLogs.{IsTornAt as IsTornLog, torn_files}
+use Rattle.coffee_find.specs.Found.{HasRecord, IsCutBy, IsSoundBut, IsTornAt, IsTroubleInside, MendsToNone, meant, without_record}
 use Rattle.coffee_find.specs.declared.trouble.TornRecord.{TornRecord}
 use Rattle.coffee_find.specs.declared.trouble.Trouble.{Trouble}
 use Rattle.coffee_layout.specs.Files.{files_of}
 use Rattle.coffee_layout.specs.Rules.{broken_image}
 use Rattle.coffee_layout.specs.Units.{pages_of}
 use Rattle.coffee_layout.specs.declared.unit.BadImage.{BadImage}
-use Rattle.coffee_mend.specs.Mended.{IsMended, IsSoundAs}
-use Rattle.coffee_mend.proofs.Mends.{mended_torn, mended_whole, torn_found}
+use Rattle.coffee_mend.specs.Mended.{IsMended}
+use Rattle.padded.proofs.Facts.{lt_false, lt_true}
 use Rattle.coffee_volume.specs.Cuts.{MendsToFiles}
 use Rattle.image_model.specs.Images.{IsFirstBroken, IsSound, files_of_image}
 use Rattle.image_model.proofs.OneBase.{one_cut, one_there, table_mends}
@@ -22,32 +25,56 @@ use Rattle.space_model.specs.FileNames.{catalog_file, is_there}
 use Rattle.catalog.proofs.Named.{named_none}
 use Rattle.stored.proofs.SoundCut.{named_there}
 use Rattle.stored.specs.CutTables.{IsCutTable}
-use Rattle.flash_views.specs.Views.{blanked}
-use Rattle.run_repair.specs.Findings.{IsLeftByCut, IsOfNoCut, IsStrange, IsSurveyed, erased_sector, settled_image, torn_place}
+use Rattle.run_repair.specs.Findings.{IsLeftByCut, IsOfNoCut, IsStrange, IsSurveyed, erased_sector, settled_image}
+
+-- an image is settled, and is sound without a torn record, with the files that it has
+record IsSoundWithout (image : List ℕ) (torn : Option TornRecord) : Type 0 where
+  settles : IsSettled image
+  sound : broken_image (without_record image torn) ≡ None
+  files : files_of image ≡ files_of (without_record image torn)
+
+-- so it is where it is sound but for that record
+sound_without : (image : List ℕ) (torn : Option TornRecord) → 256 * pages_of image ≡ length image → HasRecord (length image) torn → IsSoundBut image torn → IsSoundWithout image torn
+sound_without image None whole inside sound = record { settles = inl sound; sound = sound; files = refl }
+sound_without image (Some r) whole inside (inl last) =
+    let t : IsTornAt image r.log.0 r.place = last.1 in
+    let same : without_record image (Some r) ≡ zeros_at image r.place 128 =
+    ap (λ low. if low then without_two image r.log.0 r.used else zeros_at image r.place 128) (lt_false r.used 29 (let is = last.0 in omega (arith, is))) in
+    let at : r.place + 128 ≤ length image = let log = inside.log in let few = inside.few in omega (arith, inside.place, log, few) in
+    let torn : IsTornLog image r.log.0 r.place = record { is_log = t.is_log; free = t.free; next = t.next; sound = t.sound } in
+    record {
+      settles = inr (inl (record { log = r.log.0; is_log = t.is_log; free = t.free; sound = ap (λ p. broken_image (zeros_at image p 128)) (sym t.next) ∙ t.sound }));
+      sound = ap broken_image same ∙ t.sound;
+      files = torn_files image r.log.0 r.place whole at torn ∙ ap files_of (sym same);
+    }
+sound_without image (Some r) whole inside (inr s) =
+    let t : IsSuperseding image = s.superseding in
+    let same : without_record image (Some r) ≡ without_two image t.log.0 t.file.used =
+    ap (λ low. if low then without_two image r.log.0 r.used else zeros_at image r.place 128) (lt_true r.used 29 (let free = t.free in omega (arith, free, s.used_is)))
+    ∙ ap (λ (log : PageId). without_two image log.0 r.used) (sym s.log_is)
+    ∙ ap (without_two image t.log.0) (sym s.used_is) in
+    record {
+      settles = inr (inr t);
+      sound = ap broken_image same ∙ t.sound;
+      files = superseding_files image whole t ∙ ap files_of (sym same);
+    }
 
 -- the image that is settled is sound, and has the files that the image mends to
 pub settles_to : (image : List ℕ) (trouble : Trouble) (sectors : ℕ) → length image ≡ 4096 * sectors → IsTroubleInside (length image) trouble → IsCutBy image trouble
     → IsMended image (settled_image image trouble)
-settles_to image trouble sectors size inside cut = by_torn trouble.torn refl
-  where
-    by_torn : (torn : Option TornRecord) → trouble.torn ≡ torn → IsMended image (settled_image image trouble)
-    by_torn None e = mended_whole image (settled_image image trouble) trouble cut e (ap (λ t. blanked (settled image (meant trouble.under_way)) (torn_place t)) e)
-    by_torn (Some r) e =
-        let mid : List ℕ = settled image (meant trouble.under_way) in
-        let long : length mid ≡ length image = settled_long image (meant trouble.under_way) cut.found in
-        let whole : 256 * pages_of mid ≡ length mid = omega (arith, long, size) in
-        let record_inside : HasRecord (length image) (Some r) = subst (HasRecord (length image)) e inside.torn in
-        let there : r.place + 128 ≤ length mid = let at = record_inside.1 in omega (arith, at, long) in
-        let same : settled_image image trouble ≡ zeros_at mid r.place 128 = ap (λ t. blanked mid (torn_place t)) e in
-        let sound : IsSoundAs (zeros_at mid r.place 128) (settled_image image trouble) =
-        record {
-          sound = ap broken_image same ∙ (torn_found image mid trouble r cut e refl).sound;
-          same = record {
-            kept = λ f has. subst (λ i. Contains (files_of i) f) (sym same) has;
-            only = λ f has. subst (λ i. Contains (files_of i) f) same has;
-          };
-        } in
-        mended_torn image mid (settled_image image trouble) trouble r cut e refl whole there sound
+settles_to image trouble sectors size inside cut =
+    let mid : List ℕ = settled image (meant trouble.under_way) in
+    let long : length mid ≡ length image = settled_long image (meant trouble.under_way) cut.found in
+    let whole : 256 * pages_of mid ≡ length mid = omega (arith, long, size) in
+    let there : HasRecord (length mid) trouble.torn = subst (λ n. HasRecord n trouble.torn) (sym long) inside.torn in
+    let s : IsSoundWithout mid trouble.torn = sound_without mid trouble.torn whole there cut.settles in
+    record {
+      files = files_of mid;
+      mends = record { under_way = meant trouble.under_way; found = cut.found; settles = s.settles; files_are = refl };
+      sound = s.sound;
+      kept = λ f has. subst (λ fs. Contains fs f) s.files has;
+      only = λ f has. subst (λ fs. Contains fs f) (sym s.files) has;
+    }
 
 -- so the image mends to its files
 pub mends_settled : (image : List ℕ) (trouble : Trouble) (sectors : ℕ) → length image ≡ 4096 * sectors → IsTroubleInside (length image) trouble → IsCutBy image trouble

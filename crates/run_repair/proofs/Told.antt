@@ -2,19 +2,17 @@
 use Rattle.std.proofs.Common.{◌≡◌, ℕ, ◌*◌, List, length, None, Err, Result, sym, subst}
 use Rattle.afl_base.specs.Files.{AreDistinct, Table}
 use Rattle.coffee_layout.specs.Rules.{broken_image}
-use Rattle.coffee_mend.specs.Mended.{IsMended}
 use Rattle.coffee_volume.specs.Mounting.{mounted_state}
 use Rattle.image_model.specs.Images.{files_of_image}
 use Rattle.image_model.proofs.HandedBack.{image_distinct}
 use Rattle.image_model.proofs.Mounted.{mounted_files}
-use Rattle.image_model.proofs.OneBase.{table_mends}
 use Rattle.stored.specs.Same.{HaveSameFiles}
 use Rattle.stored.proofs.SameBase.{bytes_same, there_same}
 use Rattle.stored_mend.specs.Reported.{IsReported, bytes_seen}
 use Rattle.stored_mend.specs.declared.report.Mended.{Mended}
 use Rattle.stored_mend.proofs.ReportAs.{reported_as}
 use Rattle.stored_mend.proofs.ReportTrees.{seen_as}
-use Rattle.run_repair.specs.Repairs.{IsReportedOf, IsToldOf}
+use Rattle.run_repair.specs.Repairs.{IsToldOf}
 use Rattle.run_repair.specs.declared.came.Came.{Came}
 use Rattle.run_repair.specs.declared.came.Hindrance.{Hindrance}
 
@@ -29,14 +27,6 @@ image_seen files image sectors size places d same kept name =
 pub image_reported : (old files : Table) (image : List ℕ) (mended : List Mended) (sectors : ℕ) → length image ≡ 4096 * sectors → length files ≡ 32 → AreDistinct files → HaveSameFiles files (mounted_state image).files
     → broken_image image ≡ None → IsReported old files mended → IsReported old (files_of_image image) mended
 image_reported old files image mended sectors size places d same kept r = reported_as old files (files_of_image image) mended (image_seen files image sectors size places d same kept) r
-
--- what is said of the files of an image that was mended is said of those that the old one mends to
-pub mended_reported : (old mid new late : List ℕ) (mended : List Mended) → IsMended old mid → late ≡ new → IsReported (files_of_image mid) (files_of_image new) mended → IsReportedOf old late mended
-mended_reported old mid new late mended m same r = record {
-  files = files_of_image mid;
-  mends_to = table_mends old mid m.files m.mends m.kept m.only;
-  lines = subst (λ (image : List ℕ). IsReported (files_of_image mid) (files_of_image image) mended) (sym same) r;
-}
 
 -- of what hindered it nothing is told
 pub told_hindered : (old new : List ℕ) (mended : List Mended) (came : Result Came Hindrance) (why : Hindrance) → came ≡ Err why → IsToldOf old new mended came

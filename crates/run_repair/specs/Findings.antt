@@ -3,13 +3,11 @@ use Rattle.std.specs.Prelude.{◌≡◌, ⊤, ℕ, Bool, true, false, List, Opti
 use Rattle.afl_base.specs.Files.{Table}
 use Rattle.afl_base.specs.declared.ids.SectorId.{SectorId}
 use Rattle.coffee_cuts.specs.Cuts.{settled}
-use Rattle.coffee_find.specs.Found.{IsCutBy, IsTroubleInside, meant}
-use Rattle.coffee_find.specs.declared.trouble.TornRecord.{TornRecord}
+use Rattle.coffee_find.specs.Found.{IsCutBy, IsTroubleInside, meant, without_record}
 use Rattle.coffee_find.specs.declared.trouble.Trouble.{Trouble}
 use Rattle.coffee_find.specs.declared.trouble.UnderWay.{UnderWay}
 use Rattle.coffee_find.specs.declared.trouble.UnderWay.TheVariants.{Erasing}
 use Rattle.coffee_volume.specs.Cuts.{MendsToFiles}
-use Rattle.flash_views.specs.Views.{blanked}
 use Rattle.image_model.specs.Images.{IsFirstBroken, IsSound, files_of_image}
 use Rattle.space_model.specs.FileNames.{catalog_file, is_there}
 use Rattle.stored.specs.CutTables.{IsCutTable}
@@ -19,14 +17,9 @@ use Rattle.run_repair.specs.declared.finding.Finding.TheVariants.{Sound, Cut, St
 
 -- ---- the image as it reads
 
--- where the torn record begins
-abbrev pub torn_place : Option TornRecord → Option ℕ
-torn_place None = None
-torn_place (Some r) = Some r.place
-
--- the image, once what a cut left of its files is settled, and the torn record is zero
+-- the image, once what a cut left of its files is settled, without the torn record
 abbrev pub settled_image : List ℕ → Trouble → List ℕ
-settled_image image trouble = blanked (settled image (meant trouble.under_way)) (torn_place trouble.torn)
+settled_image image trouble = without_record (settled image (meant trouble.under_way)) trouble.torn
 
 -- the sector that was being erased
 abbrev pub erased_sector : UnderWay → Option SectorId

@@ -1,5 +1,6 @@
 pub mod Checks
 pub mod Findings
+pub mod GivenUp
 pub mod Mends
 pub mod Outcomes
 pub mod Repairs

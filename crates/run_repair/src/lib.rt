@@ -4,6 +4,7 @@
 mod came;
 mod checking;
 mod finding;
+mod giving_up;
 mod judging;
 mod laws;
 mod lines;

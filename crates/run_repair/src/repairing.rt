@@ -1,8 +1,9 @@
 ghost use Rattle.std.specs.Prelude.{◌≡◌, ◌≤◌, [], Err, IfErr, IsTrue, OnOk, length};
 ghost use Rattle.afl_base.specs.Causes.{Rose};
 ghost use Rattle.coffee_find.specs.Found.{IsCutBy, IsTroubleInside};
-ghost use Rattle.coffee_mend.specs.Mended.{IsMended};
+ghost use Rattle.coffee_mend.specs.Mended.{IsCrowded, IsMended};
 ghost use Rattle.run_repair.specs.Findings.{IsLeftByCut};
+ghost use Rattle.run_repair.specs.GivenUp.{IsSettledTo};
 ghost use Rattle.run_repair.specs.Mends.{IsHindered, OnFault, OnSpaceless, StaysOrMends, StillMends, StillMendsButLacks};
 ghost use Rattle.run_repair.specs.Repairs.{IsRepairStatus, IsToldOf, Leaves, Repairs};
 ghost use Rattle.image_model.specs.Images.{IsSound};
@@ -10,6 +11,7 @@ ghost use Rattle.run_repair.specs.declared.came.Hindrance.TheVariants.{Failed as
 
 use crate::came::{Came, Hindrance};
 use crate::finding::{Finding, find_out};
+use crate::giving_up::give_up_tree;
 use crate::judging::judge_image;
 use crate::lines::say;
 use crate::mending::mend_image;
@@ -86,11 +88,43 @@ fn put_cut_right<F: Flash>(
 {
     sound_image_breaks_no_rule();
     flash.sectors();
-    mend_files(flash, trouble, bad)?;
+    settle_files(flash, trouble, bad)?;
     mend_image(flash, report)?;
     match judge_image(flash)? {
         Ok(()) => Ok(Came::Repaired),
         Err(bad) => Err(Hindrance::Unsettled(bad)),
+    }
+}
+
+// Repairs what a cut left of the files of an image that breaks this rule first. Where the pages are lacking to put a tree
+// together with its log, it is given up.
+fn settle_files<F: Flash>(flash: &mut F, trouble: &Trouble, bad: BadImage) -> Result<(), Hindrance>
+    requires inside { IsTroubleInside (length (F.image flash.old)) trouble.now }
+    ensures settled { IsTrue F.tells → IsLeftByCut (F.image flash.old) trouble.now
+        → OnOk result (IsSettledTo (F.image flash.old) (F.image flash.new)) }
+    ensures hindered { IsTrue F.tells → IsCutBy (F.image flash.old) trouble.now
+        → IfErr result IsHindered }
+    ensures space { IsTrue F.tells → IsLeftByCut (F.image flash.old) trouble.now
+        → IfErr result (λ why. OnSpaceless why (StillMendsButLacks (F.image flash.old) (F.image flash.new))) }
+    ensures cut { IsTrue F.tells → IsTrue F.cuts → IsLeftByCut (F.image flash.old) trouble.now
+        → IfErr result (λ why. OnFault why (StillMends (F.image flash.old) (F.image flash.new))) }
+    ensures size { length (F.image flash.new) ≡ length (F.image flash.old) }
+    ensures lent { F.lent flash.new ≡ F.lent flash.old }
+    ensures later { F.faults flash.old ≤ F.faults flash.new }
+    ensures cause { result ≡ Err FaultOfFlash → Rose (F.faults flash.old) (F.faults flash.new) }
+{
+    flash.sectors();
+    match mend_files(flash, trouble, bad) {
+        Ok(()) => Ok(()),
+        Err(Hindrance::Spaceless { need }) => {
+            if give_up_tree(flash)? {
+                Ok(())
+            } else {
+                Err(Hindrance::Spaceless { need })
+            }
+        }
+        Err(Hindrance::Unsettled(bad)) => Err(Hindrance::Unsettled(bad)),
+        Err(Hindrance::Failed) => Err(Hindrance::Failed),
     }
 }
 
@@ -101,8 +135,8 @@ fn mend_files<F: Flash>(flash: &mut F, trouble: &Trouble, bad: BadImage) -> Resu
         → OnOk result (IsMended (F.image flash.old) (F.image flash.new)) }
     ensures hindered { IsTrue F.tells → IsCutBy (F.image flash.old) trouble.now
         → IfErr result IsHindered }
-    ensures space { IsTrue F.tells → IsLeftByCut (F.image flash.old) trouble.now
-        → IfErr result (λ why. OnSpaceless why (StillMendsButLacks (F.image flash.old) (F.image flash.new))) }
+    ensures space { IsTrue F.tells → IsCutBy (F.image flash.old) trouble.now
+        → IfErr result (λ why. OnSpaceless why (IsCrowded (F.image flash.old) (F.image flash.new))) }
     ensures cut { IsTrue F.tells → IsTrue F.cuts → IsLeftByCut (F.image flash.old) trouble.now
         → IfErr result (λ why. OnFault why (StillMends (F.image flash.old) (F.image flash.new))) }
     ensures size { length (F.image flash.new) ≡ length (F.image flash.old) }

@@ -1,16 +1,16 @@
-ghost use Rattle.std.specs.Prelude.{◌≡◌, ℕ, ◌+◌, ◌≤◌, IfOk, IsTrue, None, Some, length};
+ghost use Rattle.std.specs.Prelude.{◌≡◌, IfOk, IsTrue, None, length};
 ghost use Rattle.afl_base.specs.Causes.{HasCause};
 ghost use Rattle.afl_base.specs.Keeping.{OnlyReads};
-ghost use Rattle.coffee_find.specs.Found.{HasRecord, IsCutBy, IsTroubleInside};
+ghost use Rattle.coffee_find.specs.Found.{IsCutBy, IsTroubleInside};
 ghost use Rattle.coffee_layout.specs.Rules.{broken_image};
-ghost use Rattle.run_repair.specs.Findings.{IsSurveyed, erased_sector, settled_image, torn_place};
+ghost use Rattle.run_repair.specs.Findings.{IsSurveyed, erased_sector, settled_image};
 ghost use Rattle.run_repair.specs.Surveys.{AreSurveyed};
 ghost use Rattle.image_model.specs.Images.{files_of_image};
 
 use crate::room::finds_room;
 use afl_base::{Failed, Files, Flash, SectorId};
 use catalog::catalog_file;
-use coffee_find::{TornRecord, Trouble, UnderWay, overlay_of};
+use coffee_find::{Trouble, UnderWay, overlay_of};
 use coffee_volume::{Unlisted, Volume, list};
 use flash_views::{Handed, View};
 use stored_mend::Report;
@@ -42,7 +42,7 @@ fn survey_settled<F: Flash>(flash: F, trouble: &Trouble, surveyed: &mut Result<b
     ensures cause { HasCause (F.faults flash) (F.faults result) surveyed.new }
 {
     flash.sectors();
-    let overlay = overlay_of(&trouble.under_way, torn_place(&trouble.torn));
+    let overlay = overlay_of(&trouble.under_way, &trouble.torn);
     let erased = erased_sector(&trouble.under_way);
     let mut view = View::new(flash, overlay);
     *surveyed = survey_view(&mut view, erased);
@@ -79,7 +79,7 @@ fn foretell_settled<F: Flash>(
     ensures lent { F.lent result ≡ F.lent flash }
     ensures cause { HasCause (F.faults flash) (F.faults result) foretold.new }
 {
-    let overlay = overlay_of(&trouble.under_way, torn_place(&trouble.torn));
+    let overlay = overlay_of(&trouble.under_way, &trouble.torn);
     let mut view = View::new(flash, overlay);
     *foretold = foretell_view(&mut view, report);
     view.into_flash()
@@ -98,17 +98,6 @@ fn foretell_view<F: Flash>(flash: &mut F, report: &mut Report) -> Result<(), Fai
     };
     let mut volume = Volume::over(Handed { flash }, listed);
     foretell(&mut volume, report)
-}
-
-// Where the torn record begins.
-fn torn_place(torn: &Option<TornRecord>) -> Option<u32>
-    ensures place { result ≡ torn_place torn.now }
-    ensures inside { (size : ℕ) → HasRecord size torn.now → (p : ℕ) → result ≡ Some p → p + 128 ≤ size }
-{
-    match torn {
-        Some(record) => Some(record.place),
-        None => None,
-    }
 }
 
 // The sector that was being erased.

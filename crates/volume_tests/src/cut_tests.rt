@@ -272,20 +272,20 @@ fn are_many(images: Option<u64>, least: u64) -> bool {
 #[test]
 fn files_are_mended_behind_cuts(rt: HostRuntime) -> Result<(), Fail> {
     let images = steps_are_mended(rt.alloc(), 16, 12)?;
-    assert!(rt; are_many(images, 6_000));
+    assert!(rt; are_many(images, 2_000));
     Ok(())
 }
 
 #[test]
 fn files_on_few_sectors_are_mended_behind_cuts(rt: HostRuntime) -> Result<(), Fail> {
     let images = steps_are_mended(rt.alloc(), 9, 12)?;
-    assert!(rt; are_many(images, 6_000));
+    assert!(rt; are_many(images, 2_000));
     Ok(())
 }
 
 #[test]
 fn files_on_four_sectors_are_mended_behind_cuts(rt: HostRuntime) -> Result<(), Fail> {
     let images = steps_are_mended(rt.alloc(), 4, 12)?;
-    assert!(rt; are_many(images, 500));
+    assert!(rt; are_many(images, 250));
     Ok(())
 }

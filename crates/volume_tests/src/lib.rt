@@ -10,6 +10,8 @@ mod catalog_tests;
 #[cfg(test)]
 mod cut_tests;
 #[cfg(test)]
+mod discard_tests;
+#[cfg(test)]
 mod draft_tests;
 #[cfg(test)]
 mod fault_tests;

@@ -15,12 +15,19 @@ returns-in-1-clause-none g c = λ t broken.
     none_then (IsHeadWrong image bad.place) (MendsToNone image) c.search_head.result
     (λ wrong. mends_to_none image c.sectors.result c.sectors.ensures.size bad broken (head_wrong image bad c.in-1.is wrong)) (c.search_head.ensures.none t)
 
+pub returns-in-10-clause-none : goal.returns-in-10-clause-none
+returns-in-10-clause-none g c = λ t broken.
+    let image : List ℕ = g.F.Flash.image c.args.flash.now in
+    let bad : BadImage = c.args.bad.now in
+    none_then (IsWrong image bad.place Nothing) (MendsToNone image) c.search_for.result
+    (λ wrong. mends_to_none image c.sectors.result c.sectors.ensures.size bad broken (nothing_wrong image bad (omega arith) wrong)) (c.search_for.ensures.none t)
+
 pub returns-in-12-clause-none : goal.returns-in-12-clause-none
 returns-in-12-clause-none g c = λ t broken.
     let image : List ℕ = g.F.Flash.image c.args.flash.now in
     let bad : BadImage = c.args.bad.now in
-    none_then (IsWrong image bad.place Nothing) (MendsToNone image) c.search_for.result
-    (λ wrong. mends_to_none image c.sectors.result c.sectors.ensures.size bad broken (nothing_wrong image bad c.in-12.is wrong)) (c.search_for.ensures.none t)
+    none_then (IsWrong image bad.place Nothing) (MendsToNone image) c.search_for-in-12.result
+    (λ wrong. mends_to_none image c.sectors.result c.sectors.ensures.size bad broken (nothing_wrong image bad (omega arith) wrong)) (c.search_for-in-12.ensures.none t)
 
 pub returns-in-2-clause-none : goal.returns-in-2-clause-none
 returns-in-2-clause-none g c = λ t broken.
@@ -49,5 +56,5 @@ returns-in_default-clause-none g c = λ t broken.
     let bad : BadImage = c.args.bad.now in
     mends_to_none image c.sectors.result c.sectors.ensures.size bad broken (none_wrong image bad (elim c.in_default.branch [
       | in_default-via-then-bad-lt1 w ↦ inl (omega arith)
-      | in_default-via-else-bad-lt1+else-bad-lt5+else-bad-lt7+else-bad-lt10 w ↦ inr (omega arith, λ e. omega (arith, e))
+      | in_default-via-else-bad-lt1+else-bad-lt5+else-bad-lt7+else-bad-lt10 w ↦ inr (omega arith, (λ e. omega (arith, e)), (λ e. omega (arith, e)))
     ]))

@@ -1,10 +1,8 @@
 use Rattle.std.proofs.Common.{◌+◌, ◌*◌, rules, arith, sym}
 use Rattle.std.proofs.lemmas.Option.{IfSome_then}
-use Rattle.coffee_cuts.specs.Cuts.{IsFound}
-use Rattle.coffee_find.specs.Found.{meant, placed_of}
-use Rattle.coffee_find.specs.Search.{AreTwins, IsFileIn, NamesActiveLog}
-use Rattle.coffee_find.proofs.Pairs.{ahead_end, ahead_start, ahead_step, all_mean}
-use Rattle.coffee_find.proofs.WithLogs.{with_log}
+use Rattle.coffee_find.specs.Found.{placed_of}
+use Rattle.coffee_find.specs.Search.{AreTwins, IsFileIn}
+use Rattle.coffee_find.proofs.Pairs.{ahead_end, ahead_start, ahead_step}
 use Rattle.coffee_find.proofs.twins.find_replaced.Goals as goal
 
 pub returns-in-Some-2-clause-found : goal.returns-in-Some-2-clause-found
@@ -15,9 +13,7 @@ returns-in-Some-2-clause-found g c = λ t.
     let behind = (rw c.in-Some-2.is at c.in_ok-twin.ensures.behind) in
     let named = (rw c.in-Some-2.is at c.in_ok-twin.ensures.named) in
     let twins : AreTwins image c.in-Some.file c.in-Some-2.twin = record { first_there = first; second_there = second; order = behind; one_name = sym named } in
-    let found = IfSome_then c.in_order.result c.in_order.ensures.found (λ u f. f image twins) in
-    let log = rw (c.twin_of.ensures.frame.same, c.file_from.ensures.frame.same, c.loop-turn.invariant.same) at (c.with_its_log.ensures.log t) in
-    with_log (λ u. IsFound image (meant u)) (NamesActiveLog image) c.in_order.result c.with_its_log.result found c.with_its_log.ensures.same log
+    IfSome_then c.in_order.result c.in_order.ensures.found (λ u f. f image twins)
 
 pub loop-turn-init : goal.loop-turn-init
 loop-turn-init g c = record {
@@ -53,9 +49,9 @@ loop-turn-preserved g c = record {
 }
 
 pub returns-in_default-clause-all : goal.returns-in_default-clause-all
-returns-in_default-clause-all g c = λ t old new m.
-    let ahead = c.loop-turn.invariant.ahead t old new m in
-    (rw (c.loop-turn.invariant.same, c.in_default.is) at (c.in_ok-file.ensures.none t)) (old.page + 1) old m.found.old_there ahead.first (omega arith) tt
+returns-in_default-clause-all g c = λ t dropped kept m.
+    let ahead = c.loop-turn.invariant.ahead t dropped kept m in
+    (rw (c.loop-turn.invariant.same, c.in_default.is) at (c.in_ok-file.ensures.none t)) (dropped.page + 1) dropped m.found.dropped_there ahead.first (omega arith) tt
 
 pub returns-in-Some-2-clause-all : goal.returns-in-Some-2-clause-all
 returns-in-Some-2-clause-all g c = λ t.
@@ -66,12 +62,9 @@ returns-in-Some-2-clause-all g c = λ t.
     let behind = (rw c.in-Some-2.is at c.in_ok-twin.ensures.behind) in
     let named = (rw c.in-Some-2.is at c.in_ok-twin.ensures.named) in
     let twins : AreTwins image c.in-Some.file c.in-Some-2.twin = record { first_there = first; second_there = second; order = behind; one_name = sym named } in
-    all_mean image (16 * c.sectors-pages.result) (omega (arith, size)) c.in_order.result c.with_its_log.result
-    (λ old new m. c.in_order.ensures.all image old new (omega (arith, size)) twins m)
-    c.with_its_log.ensures.same
-    (rw (c.twin_of.ensures.frame.same, c.file_from.ensures.frame.same, c.loop-turn.invariant.same) at (c.with_its_log.ensures.none t))
+    λ dropped kept m. c.in_order.ensures.all image (16 * c.sectors-pages.result) dropped kept (omega (arith, size)) twins m
 
 pub returns-clause-all : goal.returns-clause-all
-returns-clause-all g c = λ t old new m.
+returns-clause-all g c = λ t dropped kept m.
     let size = c.loop-turn.invariant.size in
-    ahead_end (g.F.Flash.image c.args.flash.now) (16 * c.sectors-pages.result) c.loop-turn.from c.loop-turn._turn old new (omega (arith, size)) (omega (arith, c.loop-turn-test.false)) (c.loop-turn.invariant.ahead t) m
+    ahead_end (g.F.Flash.image c.args.flash.now) (16 * c.sectors-pages.result) c.loop-turn.from c.loop-turn._turn dropped kept (omega (arith, size)) (omega (arith, c.loop-turn-test.false)) (c.loop-turn.invariant.ahead t) m

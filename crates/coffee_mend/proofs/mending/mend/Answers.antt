@@ -1,6 +1,5 @@
-use Rattle.std.proofs.Common.{Some, length, arith}
 use Rattle.std.proofs.lemmas.Result.{on_ok_weaker}
-use Rattle.coffee_find.specs.Found.{HasRecord, meant}
+use Rattle.coffee_find.specs.Found.{meant}
 use Rattle.coffee_cuts.specs.Cuts.{settled}
 use Rattle.coffee_mend.specs.Mended.{IsCrowded, IsTornAs}
 use Rattle.coffee_mend.proofs.Mends.{cut_settles, failed_more, mended_crowded, mended_cut, mended_torn, mended_whole, space_more, torn_found}
@@ -16,23 +15,19 @@ returns-in-Some-clause-mended g c = λ told cut.
     let old = g.F.Flash.image c.args.flash.now in
     let mid = g.F.Flash.image c.settle.new.flash in
     let r = c.in-Some.torn in
-    let inside : HasRecord (length old) (Some r) = rw c.in-Some.is at c.requires.inside.torn in
-    let place = inside.1 in
-    let size = c.in-Ok.ensures.frame.size in
-    let new = g.F.Flash.image c.join_torn.new.flash in
-    on_ok_weaker c.join_torn.result
-    (λ joined. mended_torn old mid new c.args.trouble.now r cut c.in-Some.is (c.in-Ok.ensures.settled told) (omega (arith, size, c.sectors.ensures.size)) (omega (arith, place, size)) joined)
-    (c.join_torn.ensures.joined told (torn_found old mid c.args.trouble.now r cut c.in-Some.is (c.in-Ok.ensures.settled told)))
+    let new = g.F.Flash.image c.mend_torn.new.flash in
+    on_ok_weaker c.mend_torn.result (λ joined. mended_torn old mid new c.args.trouble.now r cut c.in-Some.is (c.in-Ok.ensures.settled told) joined)
+    (c.mend_torn.ensures.mended told (torn_found old mid c.args.trouble.now r cut c.in-Some.is (c.in-Ok.ensures.settled told)))
 
 pub returns-in-Some-clause-space : goal.returns-in-Some-clause-space
 returns-in-Some-clause-space g c = λ told cut.
     let old = g.F.Flash.image c.args.flash.now in
     let mid = g.F.Flash.image c.settle.new.flash in
     let r = c.in-Some.torn in
-    let new = g.F.Flash.image c.join_torn.new.flash in
-    space_more (λ need. IsTornAs mid new r.log.0 r.place need) (λ need. IsCrowded old new need) c.join_torn.result
-    (λ need t. mended_crowded old mid new c.args.trouble.now r need cut c.in-Some.is (c.in-Ok.ensures.settled told) t)
-    (c.join_torn.ensures.space told (torn_found old mid c.args.trouble.now r cut c.in-Some.is (c.in-Ok.ensures.settled told)))
+    let new = g.F.Flash.image c.mend_torn.new.flash in
+    space_more (λ need. IsTornAs mid new r.log.0 r.place need) (λ need. IsCrowded old new need) c.mend_torn.result
+    (λ need t. mended_crowded old mid new c.args.trouble.now r cut c.in-Some.is (c.in-Ok.ensures.settled told) need t)
+    (c.mend_torn.ensures.space told (torn_found old mid c.args.trouble.now r cut c.in-Some.is (c.in-Ok.ensures.settled told)))
 
 pub returns-in_default-clause-cut : goal.returns-in_default-clause-cut
 returns-in_default-clause-cut g c = λ t u cut.
@@ -44,9 +39,5 @@ returns-in-Some-clause-cut g c = λ t u cut.
     let old = g.F.Flash.image c.args.flash.now in
     let mid = g.F.Flash.image c.settle.new.flash in
     let r = c.in-Some.torn in
-    let inside : HasRecord (length old) (Some r) = rw c.in-Some.is at c.requires.inside.torn in
-    let place = inside.1 in
-    let size = c.in-Ok.ensures.frame.size in
-    failed_more _ _ c.join_torn.result
-    (λ m. mended_cut old mid _ c.args.trouble.now r cut c.in-Some.is (c.in-Ok.ensures.settled t) (omega (arith, size, c.sectors.ensures.size)) (omega (arith, place, size)) m)
-    (c.join_torn.ensures.cut t u (torn_found old mid c.args.trouble.now r cut c.in-Some.is (c.in-Ok.ensures.settled t)))
+    failed_more _ _ c.mend_torn.result (λ m. mended_cut old mid (g.F.Flash.image c.mend_torn.new.flash) c.args.trouble.now r cut c.in-Some.is (c.in-Ok.ensures.settled t) m)
+    (c.mend_torn.ensures.cut t u (torn_found old mid c.args.trouble.now r cut c.in-Some.is (c.in-Ok.ensures.settled t)))

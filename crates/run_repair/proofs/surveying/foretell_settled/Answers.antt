@@ -4,12 +4,12 @@ use Rattle.run_repair.proofs.surveying.foretell_settled.Goals as goal
 pub new-view-requires : goal.new-view-requires
 new-view-requires g c =
     let size = length (g.F.Flash.image c.args.flash) in
-    record { inside = c.overlay_of-overlay.ensures.inside size c.requires.inside.under_way (c.torn_place.ensures.inside size c.requires.inside.torn) }
+    record { inside = c.overlay_of-overlay.ensures.inside size c.requires.inside.under_way c.requires.inside.torn }
 
 pub returns : goal.returns
 returns g c =
     let size = length (g.F.Flash.image c.args.flash) in
-    let inside = c.overlay_of-overlay.ensures.inside size c.requires.inside.under_way (c.torn_place.ensures.inside size c.requires.inside.torn) in
+    let inside = c.overlay_of-overlay.ensures.inside size c.requires.inside.under_way c.requires.inside.torn in
     let read = c.foretell_view.ensures in
     let image = read.same ∙ c.new-view.ensures.image in
     let lent = read.lent ∙ c.new-view.ensures.lent in

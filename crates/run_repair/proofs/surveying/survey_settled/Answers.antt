@@ -1,10 +1,7 @@
 use Rattle.std.proofs.Common.{◌∙◌, ℕ, List, Option, ap, length, subst}
 use Rattle.std.specs.Prelude.{IfOk}
 use Rattle.afl_base.specs.declared.ids.SectorId.{SectorId}
-use Rattle.coffee_cuts.specs.Cuts.{settled}
-use Rattle.coffee_find.specs.Found.{meant}
 use Rattle.coffee_layout.specs.Rules.{broken_image}
-use Rattle.flash_views.specs.Views.{blanked}
 use Rattle.run_repair.specs.Findings.{IsSurveyed, settled_image}
 use Rattle.run_repair.proofs.Settled.{settles_to}
 use Rattle.run_repair.proofs.surveying.survey_settled.Goals as goal
@@ -12,12 +9,12 @@ use Rattle.run_repair.proofs.surveying.survey_settled.Goals as goal
 pub new-view-requires : goal.new-view-requires
 new-view-requires g c =
     let size = length (g.F.Flash.image c.args.flash) in
-    record { inside = c.overlay_of-overlay.ensures.inside size c.requires.inside.under_way (c.torn_place.ensures.inside size c.requires.inside.torn) }
+    record { inside = c.overlay_of-overlay.ensures.inside size c.requires.inside.under_way c.requires.inside.torn }
 
 pub returns : goal.returns
 returns g c =
     let size = length (g.F.Flash.image c.args.flash) in
-    let inside = c.overlay_of-overlay.ensures.inside size c.requires.inside.under_way (c.torn_place.ensures.inside size c.requires.inside.torn) in
+    let inside = c.overlay_of-overlay.ensures.inside size c.requires.inside.under_way c.requires.inside.torn in
     let read = c.survey_view.ensures in
     let image = read.same ∙ c.new-view.ensures.image in
     let lent = read.lent ∙ c.new-view.ensures.lent in
@@ -27,7 +24,7 @@ returns g c =
       surveyed = λ told cut.
           let flash = g.F.Flash.image c.args.flash in
           let trouble = c.args.trouble.now in
-          let settled_is = c.new-view.ensures.image ∙ c.overlay_of-overlay.ensures.settled flash ∙ ap (blanked (settled flash (meant trouble.under_way))) c.torn_place.ensures.place in
+          let settled_is = c.new-view.ensures.image ∙ c.overlay_of-overlay.ensures.settled flash in
           let sound = ap broken_image settled_is ∙ (settles_to flash trouble c.sectors.result c.sectors.ensures.size c.requires.inside cut).sound in
           subst (λ (e : Option SectorId). IfOk c.survey_view.result (IsSurveyed (settled_image flash trouble) e)) c.erased_sector-erased.ensures
           (subst (λ (i : List ℕ). IfOk c.survey_view.result (IsSurveyed i c.erased_sector-erased.result)) settled_is (read.surveyed told sound));

@@ -1,0 +1,54 @@
+-- What is left of an image whose files are settled, and of one of which the tree of an index is given up.
+use Rattle.std.specs.Prelude.{◌≡◌, ◌≢◌, ◌⊎◌, ◌<◌, ℕ, true, List, None}
+use Rattle.afl_base.specs.Files.{Table}
+use Rattle.catalog.specs.Rules.{is_tree}
+use Rattle.coffee_layout.specs.Rules.{broken_image}
+use Rattle.coffee_volume.specs.Cuts.{MendsToFiles}
+use Rattle.image_model.specs.Images.{files_of_image}
+use Rattle.space_model.specs.FileNames.{tree_file}
+use Rattle.stored.specs.CutTables.{IsCutTable}
+use Rattle.stored_mend.specs.Reported.{bytes_seen, index_seen}
+
+-- files lack the tree of a name, which an index in their catalog has, and a cut can have left them
+pub record MayLack (files : Table) (name : List ℕ) : Type 0 where
+  pub slot : ℕ
+  pub below : slot < 8
+  pub named : name ≡ tree_file slot
+  pub asked : is_tree (index_seen files slot) ≡ true
+  pub cut : IsCutTable files
+
+-- the tree of the index in a slot is gone from files, and all others are as they were
+pub record LacksTree (old new : Table) (slot : ℕ) : Type 0 where
+  pub below : slot < 8
+  pub asked : is_tree (index_seen old slot) ≡ true
+  pub gone : bytes_seen (tree_file slot) new ≡ None
+  pub others : (name : List ℕ) → name ≢ tree_file slot → bytes_seen name new ≡ bytes_seen name old
+
+-- an image keeps the rules of files, and has the files that another mends to but for the tree of an index; a cut can have
+-- left these
+pub record IsGivenUp (old new : List ℕ) : Type 0 where
+  pub files : Table
+  pub mends_to : MendsToFiles old files
+  pub sound : broken_image new ≡ None
+  pub cut : IsCutTable (files_of_image new)
+  pub slot : ℕ
+  pub lacks : LacksTree files (files_of_image new) slot
+
+-- an image mends to such files
+pub record IsBeingGivenUp (old new : List ℕ) : Type 0 where
+  pub files : Table
+  pub mends_to : MendsToFiles old files
+  pub others : Table
+  pub still : MendsToFiles new others
+  pub cut : IsCutTable others
+  pub slot : ℕ
+  pub lacks : LacksTree files others slot
+
+-- an image keeps the rules of files, and has the files that another mends to, or these but for the tree of an index; a cut
+-- can have left them
+pub record IsSettledTo (old new : List ℕ) : Type 0 where
+  pub files : Table
+  pub mends_to : MendsToFiles old files
+  pub sound : broken_image new ≡ None
+  pub cut : IsCutTable (files_of_image new)
+  pub kept : (files_of_image new ≡ files) ⊎ ((slot : ℕ) × LacksTree files (files_of_image new) slot)
