@@ -2,7 +2,6 @@
 use Rattle.std.proofs.Common.{◌≡◌, ◌≢◌, ⊎_elim, ℕ, List, Ok, Err, Some, None, IsTrue, refl, ap, sym, subst, ◌∙◌}
 use Rattle.std.specs.Prelude.{IsErrAnd, IsErrOf, Result, unwrap_or}
 use Rattle.std.proofs.lemmas.Bool.{cases_eq}
-use Rattle.std.proofs.lemmas.Result.{err_from_is_err_and}
 use Rattle.afl_base.specs.CutFiles.{MendsToEither, MendsToState}
 use Rattle.afl_base.specs.FileErrors.{OnSpace, UnlessFailed}
 use Rattle.afl_base.specs.Files.{File, IsLive, KeepsBytes, State, Table, bytes_at, file_at, name_at, no_file, place, size_at}
@@ -10,7 +9,7 @@ use Rattle.afl_base.specs.declared.kind.FileError.{FileError}
 use Rattle.afl_base.specs.declared.kind.FileError.TheVariants.{Failed, Space}
 use Rattle.afl_base.proofs.FileLaws.{names_stay, place_live}
 use Rattle.db_model.specs.Database.{Database}
-use Rattle.padded.proofs.Facts.{some_same}
+use Rattle.padded.proofs.Facts.{err_is, some_same}
 use Rattle.space_model.specs.FileNames.{bytes_named, catalog_file, rows_file, tree_file}
 use Rattle.stored.specs.CutTables.{IsCutTable}
 use Rattle.stored.specs.Mended.{mended_base}
@@ -23,25 +22,35 @@ use Rattle.stored_mend.specs.Interrupted.{IsCutState}
 
 -- ---- errors that are handed on
 
+-- a call failed as the last one did
+pub failed_as : (A T : Type 0) (e : FileError) (result : Result T FileError) → result ≡ Err e → IsErrOf result Failed → IsErrOf {T = A} (Err e) Failed
+failed_as A T (Space need) result is failed = let no : ◌≡◌ {A = Result T FileError} (Err (Space need)) (Err Failed) = sym is ∙ failed in absurd (cc)
+failed_as A T Failed result is failed = refl
+
+-- no call failed that did not
+pub not_failed : (T : Type 0) (x : T) (P : Type 0) → IsErrOf (Ok x) Failed → P
+not_failed T x P failed = let no : ◌≡◌ {A = Result T FileError} (Ok x) (Err Failed) = failed in absurd (cc)
+
+-- pages are lacking as they were for the last one
+pub space_as : (A T : Type 0) (e : FileError) (result : Result T FileError) → result ≡ Err e → (P Q : ℕ → Type 0) → ((need : ℕ) → P need → Q need) → OnSpace {T = A} (Err e) P → OnSpace result Q
+space_as A T e result is P Q follows lacks = subst (λ (r : Result T FileError). OnSpace r Q) (sym is) (by_error e lacks)
+  where
+    by_error : (f : FileError) → OnSpace {T = A} (Err f) P → OnSpace {T = T} (Err f) Q
+    by_error (Space need) p = follows need p
+    by_error Failed p = tt
+
+-- nor one that found no space
+pub space_no_failure : {T : Type 0} (need : ℕ) (P : Type 0) → IsErrOf {T = T} (Err (Space need)) Failed → P
+space_no_failure {T = T} need P h = let no : ◌≡◌ {A = Result T FileError} (Err (Space need)) (Err Failed) = h in absurd (cc)
+
 -- it is Failed where that was
 pub failed_handed : {T U : Type 0} (r : Result T FileError) (q : Result U FileError) (e : FileError) → r ≡ Err e → IsErrAnd q (λ y. y ≡ e) → IsErrOf q Failed → IsErrOf r Failed
-failed_handed {U = U} r q e was is failed =
-    let said = err_from_is_err_and q is in
-    let same : said.0 ≡ Failed = err_same said.0 Failed (sym said.1 ∙ failed) in
-    was ∙ ap (λ (y : FileError). Err y) (sym said.2 ∙ same)
-  where
-    err_same : (x y : FileError) → ◌≡◌ {A = Result U FileError} (Err x) (Err y) → x ≡ y
-    err_same x y e = cc
+failed_handed {T = T} {U = U} r q e was is failed = was ∙ failed_as T U e q (err_is q e is) failed
 
 -- and what is so where there was no space
 pub space_handed : {T U : Type 0} (r : Result T FileError) (q : Result U FileError) (e : FileError) (P Q : Type 0) → r ≡ Err e → IsErrAnd q (λ y. y ≡ e) → (P → Q) → OnSpace r (λ _. P) → OnSpace q (λ _. Q)
 space_handed {T = T} {U = U} r q e P Q was is follows h =
-    let said = err_from_is_err_and q is in
-    subst (λ (z : Result U FileError). OnSpace z (λ _. Q)) (sym (said.1 ∙ ap (λ (y : FileError). Err y) said.2)) (by_error e (subst (λ (z : Result T FileError). OnSpace z (λ _. P)) was h))
-  where
-    by_error : (e : FileError) → OnSpace {T = T} (Err e) (λ _. P) → OnSpace {T = U} (Err e) (λ _. Q)
-    by_error (Space need) p = follows p
-    by_error Failed p = tt
+    space_as T U e q (err_is q e is) (λ _. P) (λ _. Q) (λ need. follows) (subst (λ (z : Result T FileError). OnSpace z (λ _. P)) was h)
 
 -- what follows where the answer is that of the last call
 pub on_space : {T : Type 0} (P Q : Type 0) (r : Result T FileError) → (P → Q) → OnSpace r (λ _. P) → OnSpace r (λ _. Q)

@@ -1,9 +1,5 @@
 -- What a cut leaves of the file of one tree.
 use Rattle.std.proofs.Common.{◌≡◌, ◌≢◌, inl, inr, ⊎_elim, ℕ, ℤ, ◌+◌, ◌<◌, List, length, IsTrue, refl, ap, sym, subst, ◌∙◌, arith}
-use Rattle.std.specs.Prelude.{Err, IsErrOf, Ok, Result}
-use Rattle.afl_base.specs.FileErrors.{OnSpace}
-use Rattle.afl_base.specs.declared.kind.FileError.{FileError}
-use Rattle.afl_base.specs.declared.kind.FileError.TheVariants.{Failed, Space}
 use Rattle.afl_base.specs.CutFiles.{MendsToEither}
 use Rattle.afl_base.specs.Files.{IsLive, IsNamed, IsUnnamed, Keeps, KeepsBytes, State, Table, bytes_at, file_at}
 use Rattle.afl_base.specs.Frames.{SparesOthers}
@@ -22,22 +18,6 @@ use Rattle.stored_mend.specs.Trees.{BuildsTree, ChangesAtMost, SparesButTree}
 use Rattle.stored_mend.proofs.OneFile.{ChangesFile, others_found}
 use Rattle.stored_mend.proofs.Replaced.{name_of}
 use Rattle.stored_mend.proofs.TreeFiles.{becomes_at_most, built_at_most, built_behind, known_but, named_bytes}
-
--- ---- errors that are handed on, whatever the answer would have been
-
-pub space_as : (T U : Type 0) (e : FileError) (P Q : Type 0) → (P → Q) → OnSpace {T = T} (Err e) (λ need. P) → OnSpace {T = U} (Err e) (λ need. Q)
-space_as T U (Space need) P Q follows p = follows p
-space_as T U Failed P Q follows p = tt
-
-pub failed_as : (T U : Type 0) (e : FileError) (P : Type 0) → (IsErrOf {T = T} (Err e) Failed → P) → IsErrOf {T = U} (Err e) Failed → P
-failed_as T U (Space need) P f h = let no : ◌≡◌ {A = Result U FileError} (Err (Space need)) (Err Failed) = h in absurd (cc)
-failed_as T U Failed P f h = f refl
-
-pub not_failed : {T : Type 0} (x : T) (P : Type 0) → IsErrOf (Ok x) Failed → P
-not_failed {T = T} x P h = let no : ◌≡◌ {A = Result T FileError} (Ok x) (Err Failed) = h in absurd (cc)
-
-pub space_no_failure : {T : Type 0} (need : ℕ) (P : Type 0) → IsErrOf {T = T} (Err (Space need)) Failed → P
-space_no_failure {T = T} need P h = let no : ◌≡◌ {A = Result T FileError} (Err (Space need)) (Err Failed) = h in absurd (cc)
 
 -- ---- what storage mends to
 

@@ -33,6 +33,7 @@ pub mod ListedSlots
 pub mod ListedSound
 pub mod ListedSteps
 pub mod MarkListed
+pub mod NamesApart
 pub mod NoCatalog
 pub mod OneFile
 pub mod PartRead
@@ -68,3 +69,4 @@ pub mod RowsCut
 pub mod RowsInterrupted
 pub mod RowsMay
 pub mod WholeRows
+pub mod WholeSlots

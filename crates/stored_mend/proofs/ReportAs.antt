@@ -61,4 +61,5 @@ pub reported_as : (old new late : Table) (lines : List AnyMended) → ((name : L
 reported_as old new late lines seen r = record {
   done = λ line there. done_as old new late seen line (r.done line there);
   told = λ line d. r.told line (done_as old late new (λ name. sym (seen name)) line d);
+  apart = r.apart;
 }

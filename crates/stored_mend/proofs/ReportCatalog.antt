@@ -6,7 +6,7 @@ use Rattle.std.proofs.lemmas.List.{length-replicate}
 use Rattle.afl_base.specs.Fields.{put_at}
 use Rattle.afl_base.specs.Files.{Appends, Becomes, File, IsNamed, IsUnnamed, Overwrites, Removes, State, Table, bytes_at, size_at}
 use Rattle.afl_base.proofs.FileLaws.{named_live, names_stay, place_live}
-use Rattle.catalog.specs.Rules.{catalog_bytes_in, is_tree}
+use Rattle.catalog.specs.Rules.{is_tree}
 use Rattle.catalog.proofs.Named.{named_found, named_none}
 use Rattle.catalog.proofs.PutRanges.{here_put}
 use Rattle.db_model.specs.declared.schemas.Attribute.{Attribute}
@@ -15,20 +15,19 @@ use Rattle.db_model.specs.declared.schemas.Schema.{Schema}
 use Rattle.db_model.specs.Catalog.{Index, index_at, index_slot_bytes, index_slot_of, kind_from, relation_at, relation_slot_bytes, relation_slot_of}
 use Rattle.padded.proofs.Facts.{slice_of_front}
 use Rattle.padded.specs.Zeros.{is_zeros}
-use Rattle.space_model.specs.FileNames.{catalog_file, file_named, is_there, rows_file, size_in, tree_file}
+use Rattle.space_model.specs.FileNames.{catalog_file, rows_file, size_in, tree_file}
 use Rattle.stored.specs.CutTables.{slot_bytes}
 use Rattle.stored.specs.Mended.{whole_bytes, whole_catalog}
 use Rattle.stored.proofs.MendedBase.{whole_long}
 use Rattle.stored_mend.specs.Mending.{IsStrangeSlot, IsWholeCatalog}
-use Rattle.stored_mend.specs.Reported.{ChangesOnce, HasNames, IsCatalogGone, IsCatalogLonger, IsDone, IsIndexGone, IsIndexOn, IsOn, IsRightCatalog, IsRightSlot, IsRightTree, IsSlotOf, IsTreeChanged, Reports, SparesSlots, StaysOrIsRight, bytes_seen, index_seen, relation_seen, tree_seen, with_line}
+use Rattle.stored_mend.specs.Reported.{ChangesOnce, HasNames, IsCatalogGone, IsCatalogLonger, IsDone, IsIndexGone, IsOn, IsRightSlot, IsRightTree, IsSlotOf, IsTreeChanged, Reports, SparesSlots, bytes_seen, index_seen, relation_seen, tree_seen, with_line}
 use Rattle.stored_mend.specs.declared.report.Mended.{Mended as AnyMended}
 use Rattle.stored_mend.specs.declared.report.Mended.TheVariants.{Catalog, Mark, Relation, Attribute as OneAttribute, Tree, Index as OneIndex, Stray}
-use Rattle.stored_mend.proofs.CatalogKept.{after, catalog_before, catalog_none, catalog_short, whole_found}
-use Rattle.stored_mend.proofs.CatalogRead.{appended_reads}
+use Rattle.stored_mend.proofs.CatalogKept.{after, catalog_none, catalog_short, whole_found}
 use Rattle.stored_mend.proofs.IndexBlank.{blanked, blanked_here, blanked_other, blanked_size, blanked_slot}
 use Rattle.stored_mend.proofs.ListedSlots.{range_range}
 use Rattle.stored_mend.proofs.OneFile.{ChangesFile, becomes_changes, catalog_no_rows, catalog_no_tree, removed_changes}
-use Rattle.stored_mend.proofs.PutOver.{length-range, zeros_are, are_zeros}
+use Rattle.stored_mend.proofs.PutOver.{length-range, are_zeros}
 use Rattle.stored_mend.proofs.Replaced.{name_of}
 use Rattle.stored_mend.proofs.ReportOnce.{reports_quiet}
 use Rattle.stored_mend.proofs.ReportSteps.{catalog_line, kind_tree, reports_line, seen_same, slot_line, tree_line}
@@ -81,6 +80,8 @@ module _ (old new : State) (cat : ℕ) (named : IsNamed old.files cat catalog_fi
     );
     slots = λ k below. inl (gone_slots k);
     rows = λ k below. inl (gone_rows k);
+    lone_rows = λ k below none. inl (gone_rows k);
+    indexes = λ i below. inl (ap (λ (xs : List ℕ). index_at xs i) gone_whole);
     trees = λ i below. inl (gone_trees i);
   }
 
@@ -178,6 +179,8 @@ module _ (old new : State) (cat : ℕ) (more : List ℕ) (told : IsTrue old.tell
     );
     slots = λ k below. inl (mark_slots k below);
     rows = λ k below. inl (mark_rows k);
+    lone_rows = λ k below none. inl (mark_rows k);
+    indexes = λ i below. inl (ap (λ (t : Option Index × Option (List ℕ)). t.0) (mark_trees i below));
     trees = λ i below. inl (mark_trees i below);
   }
 
@@ -245,6 +248,8 @@ module _ (old new : State) (cat slot at : ℕ) (part : List ℕ) (below : slot <
           (λ (differs : k ≢ slot). inl (slot_others k inside differs))
           (cases_eq k slot);
       rows = λ k inside. inl (slot_rows k);
+      lone_rows = λ k inside none. inl (slot_rows k);
+      indexes = λ i inside. inl (ap (λ (t : Option Index × Option (List ℕ)). t.0) (slot_trees i inside));
       trees = λ i inside. inl (slot_trees i inside);
     }
 
@@ -307,8 +312,15 @@ emptied_reported old new cat slot read below told w none is differs o before aft
     let here : slot_bytes old.files slot ≡ read = ap (λ (xs : List ℕ). slice_range xs (176 * slot) (176 * slot + 176)) (whole_found old.files cat w) ∙ sym is in
     let gone : relation_seen new.files slot ≡ None = ap relation_slot_of now in
     emptied_reports old new cat slot (176 * slot) (relation_slot_bytes None) below told w o (omega arith) (omega arith) (gone ∙ sym none)
-    (subst (λ (r : Option Schema). IsRightSlot r (slot_bytes old.files slot) → ⊥) (sym none) (λ right. differs (sym here ∙ right)))
-    (subst (λ (r : Option Schema). IsRightSlot r (slot_bytes new.files slot)) (sym none) now)
+    (subst (λ (r : Option Schema). IsRightSlot r (slot_bytes old.files slot) → ⊥) (sym none)
+    (λ right. ⊎_elim
+    (λ (unused : slot_bytes old.files slot ≡ relation_slot_bytes None). differs (sym here ∙ unused))
+    (λ (nothing : slot_bytes old.files slot ≡ []).
+    let size : length read ≡ 176 = ap (λ (xs : List ℕ). length xs) is ∙ length-range was (176 * slot) 176 (omega (arith, long, below)) in
+    let zero : length read ≡ 0 = ap (λ (xs : List ℕ). length xs) (sym here ∙ nothing) in
+    omega (arith, size, zero))
+    right))
+    (subst (λ (r : Option Schema). IsRightSlot r (slot_bytes new.files slot)) (sym none) (inl now))
     none before after line still
 
 -- bytes behind the attributes are taken back
@@ -405,6 +417,11 @@ module _ (old new : State) (cat slot : ℕ) (below : slot < 8) (told : IsTrue ol
       catalog = inl blank_size;
       slots = λ k inside. inl (blank_slots k inside);
       rows = λ k inside. inl (blank_rows k);
+      lone_rows = λ k inside none. inl (blank_rows k);
+      indexes = λ i inside. ⊎_elim
+          (λ (here : i ≡ slot). inr (ap (index_seen new.files) here ∙ blank_gone))
+          (λ (differs : i ≢ slot). inl (blank_index i differs))
+          (cases_eq i slot);
       trees = λ i inside. ⊎_elim
           (λ (here : i ≡ slot). inr (subst (λ (j : ℕ). (IsRightTree (tree_seen old.files j) → ⊥) × IsRightTree (tree_seen new.files j)) (sym here)
           ((λ right. let never : true ≡ false = sym (ap is_tree stands ∙ kind_tree index kind) ∙ right.0 in cc), (ap is_tree blank_gone, blank_tree ∙ none))))

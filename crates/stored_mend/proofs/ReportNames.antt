@@ -1,27 +1,29 @@
 -- An index that a cut leaves stands on an attribute that can be read.
-use Rattle.std.proofs.Common.{◌≡◌, ◌⊎◌, ⊎_elim, inl, ℕ, ◌+◌, ◌*◌, ◌<◌, Bool, true, false, not, ◌&&◌, List, [], ◌∷◌, length, get_or, map, replicate, take, Option, Some, None, refl, ap, sym, subst, ◌∙◌, arith}
+use Rattle.std.proofs.Common.{◌≡◌, ◌⊎◌, ⊎_elim, inl, inr, ℕ, ◌+◌, ◌*◌, ◌<◌, ◌≤◌, Bool, true, false, not, ◌&&◌, List, [], ◌∷◌, length, get_or, map, replicate, take, Option, Some, None, refl, ap, sym, subst, ◌∙◌, arith}
 use Rattle.std.specs.Prelude.{nat_lt, slice_get, slice_range}
 use Rattle.std.proofs.lemmas.List.{nil_from_length}
 use Rattle.std.proofs.lemmas.List.FromFn.{get_or-map-range_with_len}
 use Rattle.std.proofs.lemmas.Bool.Decides.{nat_tests}
+use Rattle.std.proofs.lemmas.Grind.{common_steps}
+use Rattle.std.proofs.lemmas.Slice.Eq.{bytes_eq-Decides}
 use Rattle.std.specs.List.{list_any, range_with_len}
 use Rattle.afl_base.specs.Files.{Table}
 use Rattle.catalog.specs.Rules.{breaks_index, breaks_relation, broken_catalog, catalog_bytes_in, catalog_in, has_form, is_behind, is_index_form, is_named_among, is_relation_slot, is_same_place, is_sound_index, is_sound_relation, is_third_table, stands_on}
 use Rattle.db_model.specs.declared.schemas.Attribute.{Attribute}
 use Rattle.db_model.specs.declared.schemas.Schema.{Schema}
-use Rattle.db_model.specs.Catalog.{Index, catalog_of, index_at, relation_at, version_of}
+use Rattle.db_model.specs.Catalog.{Index, catalog_of, index_at, relation_at, relation_slot_bytes, version_of}
 use Rattle.db_model.specs.Step.{allows}
 use Rattle.padded.proofs.Facts.{both_parts, none_some, none_there, not_not}
-use Rattle.stored.specs.CutTables.{IsHalfDone, IsSlot, slot_bytes}
+use Rattle.stored.specs.CutTables.{IsEmptiedInPart, IsHalfDone, IsSlot, slot_bytes}
 use Rattle.stored.specs.Mended.{mended_catalog, whole_bytes, whole_catalog}
 use Rattle.stored.specs.declared.half.Half.{Half}
-use Rattle.stored.specs.declared.half.Half.TheVariants.{Nothing}
+use Rattle.stored.specs.declared.half.Half.TheVariants.{Nothing, Emptying}
 use Rattle.stored.proofs.HasFiles.{formed}
 use Rattle.stored.proofs.MendedBase.{whole_long}
 use Rattle.stored.proofs.SoundSlots.{kept, unbroken_slots}
-use Rattle.stored_mend.specs.Listed.{IsBare, IsDoneTo, IsListedTo, indexes_below}
+use Rattle.stored_mend.specs.Listed.{IsAhead, IsBare, IsDoneTo, IsListedTo, indexes_below, rows_below}
 use Rattle.stored_mend.specs.Mending.{IsStrangeSlot}
-use Rattle.stored_mend.specs.Reported.{HasNames, IsOn, index_seen, relation_seen}
+use Rattle.stored_mend.specs.Reported.{HasNames, IsOn, IsRightSlot, index_seen, relation_seen}
 use Rattle.stored_mend.proofs.HalfKept.{relation_at_slot}
 use Rattle.stored_mend.proofs.IndexGone.{formed_size}
 
@@ -60,7 +62,7 @@ on_slot files slot index fine is =
 no_indexes : map (index_at []) (range_with_len 0 8) ≡ replicate 8 None
 no_indexes = refl
 
-nothing_at : (i : ℕ) (index : Index) → i < 8 → index_at [] i ≡ Some index → ⊥
+pub nothing_at : (i : ℕ) (index : Index) → i < 8 → index_at [] i ≡ Some index → ⊥
 nothing_at i index below e =
     let here : get_or (map (index_at []) (range_with_len 0 8)) i None ≡ index_at [] i = get_or-map-range_with_len (index_at []) 0 8 i i None below (omega arith) in
     none_some index (sym (ap (λ (os : List (Option Index)). get_or os i None) no_indexes ∙ none_there 8 i) ∙ here ∙ e)
@@ -82,6 +84,30 @@ listed_names files slot below l = record {
       (on.0, on.1, on.2, half_known files done.0 index.relation inside done.1.done))
       l.left;
 }
+
+-- ---- a slot without a relation, once all slots are gone through
+
+slice_nothing : (xs : List ℕ) (from end : ℕ) → xs ≡ [] → slice_range xs from end ≡ []
+slice_nothing xs from end e =
+    let none : length xs ≡ 0 = ap (λ (ys : List ℕ). length ys) e in
+    nil_from_length (slice_range xs from end) (grind (arith, common_steps, none))
+
+-- is the one of no relation, or there is no catalog
+pub lone_slot : (files : Table) (slot : ℕ) → slot < 8 → IsListedTo (rows_below slot) files → relation_seen files slot ≡ None → IsRightSlot None (slot_bytes files slot)
+lone_slot files slot below l unused = ⊎_elim
+    (λ (bare : IsBare files slot).
+    let empty : whole_catalog files ≡ [] = ap whole_bytes bare.none in
+    inr (slice_nothing (whole_catalog files) (176 * slot) (176 * slot + 176) empty))
+    (λ (done : (half : Half) × IsDoneTo (rows_below slot) files half).
+    let version : ℕ = (mended_catalog files).version in
+    let here : IsSlot done.0 version slot (slot_bytes files slot) None =
+    subst (λ (o : Option Schema). IsSlot done.0 version slot (slot_bytes files slot) o) (relation_at_slot files slot below ∙ unused) (done.1.done.slots slot below) in
+    ⊎_elim
+    (λ (written : is_relation_slot version (slot_bytes files slot) None ≡ true). inl ((bytes_eq-Decides (slot_bytes files slot) (relation_slot_bytes None)).0 written))
+    (λ (part : (done.0 ≡ Emptying slot) × IsEmptiedInPart slot (slot_bytes files slot)).
+    let ahead : 8 ≤ slot = subst (IsAhead (rows_below slot)) part.0 done.1.ahead in absurd (omega (arith, below, ahead)))
+    here)
+    l.left
 
 -- ---- a catalog that breaks no rule
 

@@ -1,15 +1,51 @@
 -- What was done by two steps, where each thing changes once at most.
-use Rattle.std.proofs.Common.{◌≡◌, ◌≢◌, ◌⊎◌, inl, inr, ⊎_elim, ℕ, ◌+◌, ◌<◌, ◌≤◌, false, List, [], ◌∷◌, ◌++◌, length, Option, Some, None, refl, ap, sym, subst, ◌∙◌, arith, append_assoc, length-append}
-use Rattle.std.specs.Prelude.{Contains}
-use Rattle.std.proofs.lemmas.List.Elements.{Contains-append_cases, Contains-append_left, Contains-append_right}
+use Rattle.std.proofs.Common.{◌≡◌, ◌≢◌, ◌⊎◌, inl, inr, ⊎_elim, ℕ, ◌+◌, ◌-◌, ◌<◌, ◌≤◌, false, List, [], ◌∷◌, ◌++◌, get_or, length, Option, Some, None, refl, ap, sym, subst, ◌∙◌, arith, append_assoc, length-append}
+use Rattle.std.specs.Prelude.{AllPairs, Contains}
+use Rattle.std.proofs.lemmas.Bool.{cases_lt}
+use Rattle.std.proofs.lemmas.List.{get_or_append_left, get_or-append-add}
+use Rattle.std.proofs.lemmas.List.Elements.{Contains-append_cases, Contains-append_left, Contains-append_right, Contains-get_or}
 use Rattle.afl_base.specs.Files.{State, Table}
 use Rattle.catalog.specs.Rules.{is_tree}
 use Rattle.db_model.specs.Catalog.{Index}
 use Rattle.space_model.specs.FileNames.{catalog_file, rows_file, size_in, tree_file}
 use Rattle.stored.specs.CutTables.{slot_bytes}
-use Rattle.stored_mend.specs.Reported.{AreRightRows, AreRowsChanged, ChangesOnce, IsCatalogGone, IsCatalogLonger, IsDone, IsIndexGone, IsIndexOn, IsOn, IsRelationGone, IsReported, IsRightCatalog, IsRightSlot, IsRightTree, IsSlotChanged, IsSlotOf, IsTreeChanged, IsTreeGone, Reports, StaysOrIsRight, bytes_seen, index_seen, relation_seen, tree_seen}
+use Rattle.stored_mend.specs.Reported.{AreRightRows, ChangesOnce, HasNamesApart, IsCatalogGone, IsCatalogLonger, IsDone, IsIndexOn, IsKeptOrGone, IsOn, IsRelationGone, IsReported, IsRightCatalog, IsRightSlot, IsRightTree, IsSlotOf, Reports, StaysOrHasSlot, StaysOrIsRight, bytes_seen, index_seen, relation_seen, tree_seen}
 use Rattle.stored_mend.specs.declared.report.Mended.{Mended as AnyMended}
 use Rattle.stored_mend.specs.declared.report.Mended.TheVariants.{Catalog, Mark, Relation, Attribute as OneAttribute, Row, Tree, Index as OneIndex, Stray}
+
+-- ---- lists in which no line stands twice
+
+abbrev pub AreApart : List AnyMended → Type 0
+AreApart lines = AllPairs (λ line other. line ≢ other) lines
+
+pub apart_none : AreApart []
+apart_none i j d less within = absurd (omega (arith, within))
+
+pub apart_one : (line : AnyMended) → AreApart (line ∷ [])
+apart_one line i j d less within = absurd (omega (arith, less, within))
+
+apart_append : (xs ys : List AnyMended) → AreApart xs → AreApart ys → ((line : AnyMended) → Contains xs line → Contains ys line → ⊥) → AreApart (xs ++ ys)
+apart_append xs ys first second never i j d less within same =
+    let long = length-append xs ys in
+    ⊎_elim
+    (λ (early : j < length xs).
+    first i j d less early (sym (get_or_append_left xs ys d i (omega (arith, less, early))) ∙ same ∙ get_or_append_left xs ys d j early))
+    (λ (late : length xs ≤ j).
+    let n : ℕ = j - length xs in
+    let inside : n < length ys = omega (arith, long, within, late) in
+    let end : length xs + n ≡ j = omega (arith, late) in
+    let there : get_or (xs ++ ys) j d ≡ get_or ys n d = ap (λ (k : ℕ). get_or (xs ++ ys) k d) (sym end) ∙ get_or-append-add xs ys n d in
+    ⊎_elim
+    (λ (before : i < length xs).
+    let both : get_or xs i d ≡ get_or ys n d = sym (get_or_append_left xs ys d i before) ∙ same ∙ there in
+    never (get_or xs i d) (Contains-get_or xs i d before) (subst (Contains ys) (sym both) (Contains-get_or ys n d inside)))
+    (λ (behind : length xs ≤ i).
+    let m : ℕ = i - length xs in
+    let at : length xs + m ≡ i = omega (arith, behind) in
+    let here : get_or (xs ++ ys) i d ≡ get_or ys m d = ap (λ (k : ℕ). get_or (xs ++ ys) k d) (sym at) ∙ get_or-append-add xs ys m d in
+    second m n d (omega (arith, less, at, end)) inside (sym here ∙ same ∙ there))
+    (cases_lt i (length xs)))
+    (cases_lt j (length xs))
 
 -- ---- a thing in three states, of which it is the same in two that follow one another
 
@@ -96,6 +132,9 @@ pub record Once (a b c : Table) : Type 0 where
   pub rows : (k : ℕ) → k < 8 → (bytes_seen (rows_file k) b ≡ bytes_seen (rows_file k) a) ⊎ (bytes_seen (rows_file k) c ≡ bytes_seen (rows_file k) b)
   pub trees : (i : ℕ) → i < 8 → (tree_seen b i ≡ tree_seen a i) ⊎ (tree_seen c i ≡ tree_seen b i)
   pub none : (k : ℕ) → k < 8 → bytes_seen (rows_file k) b ≡ None → bytes_seen (rows_file k) c ≡ None
+  pub kept : (i : ℕ) → i < 8 → IsKeptOrGone (index_seen a i) (index_seen b i)
+  -- rows that no relation has go behind their slot
+  pub lone_rows : (k : ℕ) → k < 8 → relation_seen a k ≡ None → (bytes_seen (rows_file k) b ≡ bytes_seen (rows_file k) a) ⊎ (slot_bytes c k ≡ slot_bytes b k)
 
 module _ (a b : Table) (same : (k : ℕ) → k < 8 → relation_seen b k ≡ relation_seen a k) where
   pub slot_later : (k : ℕ) (name : List ℕ) → IsSlotOf a k name → IsSlotOf b k name
@@ -124,6 +163,25 @@ module _ (a b : Table) (same : (k : ℕ) → k < 8 → relation_seen b k ≡ rel
     place = s.place;
     placed = s.placed;
     called = s.called;
+  }
+
+-- names stay apart where indexes stay, or are gone
+module _ (a b : Table) (same : (k : ℕ) → k < 8 → relation_seen b k ≡ relation_seen a k) (kept : (i : ℕ) → i < 8 → IsKeptOrGone (index_seen a i) (index_seen b i)) where
+  pub index_earlier : (i : ℕ) (index : Index) (name attribute : List ℕ) → IsIndexOn b i index name attribute → IsIndexOn a i index name attribute
+  index_earlier i index name attribute s = record {
+    below = s.below;
+    stands = ⊎_elim
+        (λ (stays : index_seen b i ≡ index_seen a i). sym stays ∙ s.stands)
+        (λ (gone : index_seen b i ≡ None). let no : Some index ≡ None = sym s.stands ∙ gone in absurd (cc))
+        (kept i s.below);
+    on = on_earlier a b same index name attribute s.on;
+  }
+
+  pub names_later : HasNamesApart a → HasNamesApart b
+  names_later n = record {
+    relations = λ k j name s t. n.relations k j name (slot_earlier a b same k name s) (slot_earlier a b same j name t);
+    indexes = λ i j index other name attribute s t.
+        n.indexes i j index other name attribute (index_earlier i index name attribute s) (index_earlier j other name attribute t);
   }
 
 -- a relation that is removed in steps
@@ -194,6 +252,17 @@ module _ (a b c : Table) (o : Once a b c) (k : ℕ) where
           (λ (same : bytes_seen (rows_file k) b ≡ bytes_seen (rows_file k) a). same ∙ e)
           (λ (same : bytes_seen (rows_file k) c ≡ bytes_seen (rows_file k) b). sym same ∙ d.gone)
           (o.rows k d.below)
+
+  relation_again : IsRelationGone a b k → IsRelationGone b c k → ⊥
+  relation_again d e =
+      let late : slot_bytes c k ≢ slot_bytes b k = ⊎_elim (λ slot. slot) (λ rows. absurd (rows d.gone)) e.changed in
+      ⊎_elim
+      (λ (same : bytes_seen (rows_file k) b ≡ bytes_seen (rows_file k) a). ⊎_elim
+      (λ (early : slot_bytes b k ≡ slot_bytes a k). ⊎_elim (λ slot. slot early) (λ rows. rows (sym same ∙ d.gone)) d.changed)
+      late
+      (o.slots k d.below))
+      late
+      (o.lone_rows k d.below d.unused)
 
 module _ (a b c : Table) (o : Once a b c) where
   abbrev catalog_split : (F : Option ℕ → Option ℕ → Type 0) → F (size_in a catalog_file) (size_in c catalog_file) → F (size_in a catalog_file) (size_in b catalog_file) ⊎ F (size_in b catalog_file) (size_in c catalog_file)
@@ -297,8 +366,35 @@ module _ (a b c : Table) (o : Once a b c) where
       late_seen IsLone (tree_seen a i) (tree_seen b i) (tree_seen c i) (o.trees i d.below) lone_not (d.treeless, d.was, d.gone) in
       record { below = d.below; treeless = f.0; was = f.1; gone = f.2 }
 
-  pub reported_then : (first second : List AnyMended) → IsReported a b first → IsReported b c second → IsReported a c (first ++ second)
-  reported_then first second r s = record {
+  -- what was done by the first is not done again by the second
+  pub done_again : HasNamesApart a → (line : AnyMended) → IsDone a b line → IsDone b c line → ⊥
+  done_again n Catalog d e = let no : Some e.size ≡ None = sym e.was ∙ d.gone in cc
+  done_again n Mark d e = ⊎_elim
+      (λ (same : size_in b catalog_file ≡ size_in a catalog_file). longer_not (size_in a catalog_file) (subst (IsCatalogLonger (size_in a catalog_file)) same d))
+      (λ (same : size_in c catalog_file ≡ size_in b catalog_file). longer_not (size_in b catalog_file) (subst (IsCatalogLonger (size_in b catalog_file)) same e))
+      o.catalog
+  done_again n (Relation k) d e = relation_again a b c o k d e
+  done_again n (OneAttribute name) d e =
+      let k : d.k ≡ e.k = n.relations d.k e.k name d.slot (slot_earlier a b o.first e.k name e.slot) in
+      ⊎_elim d.changed (λ (same : slot_bytes c d.k ≡ slot_bytes b d.k). e.changed (subst (λ (j : ℕ). slot_bytes c j ≡ slot_bytes b j) k same)) (o.slots d.k d.slot.below)
+  done_again n (Row name) d e =
+      let k : d.k ≡ e.k = n.relations d.k e.k name d.slot (slot_earlier a b o.first e.k name e.slot) in
+      ⊎_elim d.changed
+      (λ (same : bytes_seen (rows_file d.k) c ≡ bytes_seen (rows_file d.k) b). e.changed (subst (λ (j : ℕ). bytes_seen (rows_file j) c ≡ bytes_seen (rows_file j) b) k same))
+      (o.rows d.k d.slot.below)
+  done_again n (Tree name attribute) d e =
+      let i : d.i ≡ e.i = n.indexes d.i e.i d.index e.index name attribute d.on (index_earlier a b o.first o.kept e.i e.index name attribute e.on) in
+      ⊎_elim
+      (λ (same : tree_seen b d.i ≡ tree_seen a d.i). d.changed (ap (λ (t : Option Index × Option (List ℕ)). t.1) same))
+      (λ (same : tree_seen c d.i ≡ tree_seen b d.i). e.changed (subst (λ (j : ℕ). bytes_seen (tree_file j) c ≡ bytes_seen (tree_file j) b) i (ap (λ (t : Option Index × Option (List ℕ)). t.1) same)))
+      (o.trees d.i d.on.below)
+  done_again n (OneIndex name attribute) d e =
+      let i : d.i ≡ e.i = n.indexes d.i e.i d.index e.index name attribute d.on (index_earlier a b o.first o.kept e.i e.index name attribute e.on) in
+      let no : Some e.index ≡ None = sym e.on.stands ∙ ap (index_seen b) (sym i) ∙ d.gone in cc
+  done_again n (Stray i) d e = e.was d.gone
+
+  pub reported_then : HasNamesApart a → (first second : List AnyMended) → IsReported a b first → IsReported b c second → IsReported a c (first ++ second)
+  reported_then n first second r s = record {
     done = λ line there. ⊎_elim
         (λ (early : Contains first line). done_early line (r.done line early))
         (λ (late : Contains second line). done_late line (s.done line late))
@@ -307,6 +403,7 @@ module _ (a b c : Table) (o : Once a b c) where
         (λ early. Contains-append_left first second line (r.told line early))
         (λ late. Contains-append_right first second line (s.told line late))
         (done_split line d);
+    apart = apart_append first second r.apart s.apart (λ line early late. done_again n line (r.done line early) (s.done line late));
   }
 
 -- ---- steps, each of which changes a thing once
@@ -321,12 +418,34 @@ rows_none r x y s none = ⊎_elim
     by_slot None moved = moved.1
     by_slot (Some schema) moved = absurd (moved.0 (λ bytes is. let no : Some bytes ≡ None = sym is ∙ none in absurd (cc)))
 
+pub kept_then : (x y z : Option Index) → IsKeptOrGone x y → IsKeptOrGone y z → IsKeptOrGone x z
+kept_then x y z (inl same) (inl stays) = inl (stays ∙ same)
+kept_then x y z (inr none) (inl stays) = inr (stays ∙ none)
+kept_then x y z first (inr none) = inr none
+
 module _ (a b c : Table) (f : ChangesOnce a b) (g : ChangesOnce b c) where
   slots_second : (k : ℕ) → k < 8 → StaysOrIsRight (IsRightSlot (relation_seen a k)) (slot_bytes b k) (slot_bytes c k)
   slots_second k below = subst (λ r. StaysOrIsRight (IsRightSlot r) (slot_bytes b k) (slot_bytes c k)) (f.relations k below) (g.slots k below)
 
   rows_second : (k : ℕ) → k < 8 → StaysOrIsRight (AreRightRows (relation_seen a k)) (bytes_seen (rows_file k) b) (bytes_seen (rows_file k) c)
   rows_second k below = subst (λ r. StaysOrIsRight (AreRightRows r) (bytes_seen (rows_file k) b) (bytes_seen (rows_file k) c)) (f.relations k below) (g.rows k below)
+
+  -- a slot that is right and has no relation stays
+  slot_stays : (k : ℕ) → k < 8 → relation_seen a k ≡ None → IsRightSlot None (slot_bytes b k) → slot_bytes c k ≡ slot_bytes b k
+  slot_stays k below unused right = ⊎_elim
+      (λ (same : slot_bytes c k ≡ slot_bytes b k). same)
+      (λ (moved : (IsRightSlot (relation_seen a k) (slot_bytes b k) → ⊥) × IsRightSlot (relation_seen a k) (slot_bytes c k)).
+      absurd (moved.0 (subst (λ r. IsRightSlot r (slot_bytes b k)) (sym unused) right)))
+      (slots_second k below)
+
+  rows_behind : (k : ℕ) → k < 8 → relation_seen a k ≡ None → StaysOrHasSlot a c k
+  rows_behind k below unused = ⊎_elim
+      (λ (late : bytes_seen (rows_file k) c ≡ bytes_seen (rows_file k) b). ⊎_elim
+      (λ (early : bytes_seen (rows_file k) b ≡ bytes_seen (rows_file k) a). inl (late ∙ early))
+      (λ (right : IsRightSlot None (slot_bytes b k)). inr (subst (IsRightSlot None) (sym (slot_stays k below unused right)) right))
+      (f.lone_rows k below unused))
+      (λ (right : IsRightSlot None (slot_bytes c k)). inr right)
+      (g.lone_rows k below (f.relations k below ∙ unused))
 
   pub once_both : Once a b c
   once_both = record {
@@ -337,6 +456,8 @@ module _ (a b c : Table) (f : ChangesOnce a b) (g : ChangesOnce b c) where
     rows = λ k below. right_once (AreRightRows (relation_seen a k)) _ _ _ (f.rows k below) (rows_second k below);
     trees = λ i below. right_once IsRightTree _ _ _ (f.trees i below) (g.trees i below);
     none = λ k below none. rows_none (relation_seen b k) _ _ (g.rows k below) none;
+    kept = f.indexes;
+    lone_rows = λ k below unused. ⊎_elim (λ same. inl same) (λ right. inr (slot_stays k below unused right)) (f.lone_rows k below unused);
   }
 
   pub once_then : ChangesOnce a c
@@ -345,6 +466,8 @@ module _ (a b c : Table) (f : ChangesOnce a b) (g : ChangesOnce b c) where
     catalog = right_then IsRightCatalog _ _ _ f.catalog g.catalog;
     slots = λ k below. right_then (IsRightSlot (relation_seen a k)) _ _ _ (f.slots k below) (slots_second k below);
     rows = λ k below. right_then (AreRightRows (relation_seen a k)) _ _ _ (f.rows k below) (rows_second k below);
+    lone_rows = rows_behind;
+    indexes = λ i below. kept_then _ _ _ (f.indexes i below) (g.indexes i below);
     trees = λ i below. right_then IsRightTree _ _ _ (f.trees i below) (g.trees i below);
   }
 
@@ -361,7 +484,9 @@ reports_then n m all a b c before mid after f g room =
           let size : length mid ≡ length before + length f.added = ap (λ (xs : List AnyMended). length xs) first ∙ length-append before f.added in
           g.behind (omega (arith, fits, room, size, many)) ∙ ap (λ (xs : List AnyMended). xs ++ g.added) first ∙ append_assoc before f.added g.added;
       once = once_then a.files b.files c.files f.once g.once;
-      lines = reported_then a.files b.files c.files (once_both a.files b.files c.files f.once g.once) f.added g.added f.lines g.lines;
+      lines = λ n.
+          reported_then a.files b.files c.files (once_both a.files b.files c.files f.once g.once) n f.added g.added
+          (f.lines n) (g.lines (names_later a.files b.files f.once.relations f.once.indexes n));
     }
 
 pub reports_more : (n m : ℕ) (a b : State) (before after : List AnyMended) → Reports n a b before after → n ≤ m → Reports m a b before after
@@ -377,6 +502,8 @@ once_same a = record {
   catalog = inl refl;
   slots = λ k below. inl refl;
   rows = λ k below. inl refl;
+  lone_rows = λ k below unused. inl refl;
+  indexes = λ i below. inl refl;
   trees = λ i below. inl refl;
 }
 
@@ -399,7 +526,7 @@ reports_quiet n a b before after once none same = record {
   few = omega arith;
   behind = λ fits. same ∙ sym (append_none before);
   once = once;
-  lines = record { done = λ line there. absurd (contains_none line there); told = λ line d. absurd (none line d) };
+  lines = λ n. record { done = λ line there. absurd (contains_none line there); told = λ line d. absurd (none line d); apart = apart_none };
 }
   where
     append_none : (xs : List AnyMended) → xs ++ [] ≡ xs

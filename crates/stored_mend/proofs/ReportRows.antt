@@ -1,26 +1,24 @@
 -- Rows that are filled or taken back, and the line that tells them.
-use Rattle.std.proofs.Common.{◌≡◌, ◌≢◌, ◌⊎◌, inl, inr, ⊎_elim, ℕ, suc, ◌*◌, ◌<◌, ◌≤◌, List, length, take, Option, Some, None, IsTrue, refl, ap, sym, subst, ◌∙◌, arith}
+use Rattle.std.proofs.Common.{◌≡◌, ◌≢◌, ◌⊎◌, inl, inr, ⊎_elim, ℕ, suc, ◌*◌, ◌<◌, List, length, take, Option, Some, None, IsTrue, refl, ap, sym, subst, ◌∙◌, arith}
 use Rattle.std.specs.Prelude.{option_map}
-use Rattle.std.proofs.Math.Nat.{mul-div-le}
 use Rattle.std.proofs.lemmas.Bool.{cases_eq}
-use Rattle.std.proofs.lemmas.List.{length-take-le}
 use Rattle.afl_base.specs.Files.{Becomes, File, IsNamed, State, bytes_at}
 use Rattle.afl_base.proofs.FileLaws.{named_live, names_stay, place_live}
 use Rattle.catalog.proofs.Named.{named_found}
 use Rattle.db_model.specs.declared.schemas.Attribute.{Attribute}
 use Rattle.db_model.specs.declared.schemas.Schema.{Schema}
 use Rattle.db_model.specs.Row.{row_length, slots_in_bytes}
-use Rattle.space_model.specs.FileNames.{catalog_file, rows_file, size_in, tree_file}
+use Rattle.space_model.specs.FileNames.{catalog_file, rows_file, size_in}
 use Rattle.stored.specs.CutTables.{slot_bytes}
 use Rattle.tuple_file.proofs.Slots.{slots_of_whole}
 use Rattle.stored_mend.specs.Filled.{FillsRow}
 use Rattle.stored_mend.specs.Reported.{AreRightRows, ChangesOnce, IsDone, IsSlotOf, Reports, bytes_seen, relation_seen, tree_seen, with_line}
-use Rattle.stored_mend.specs.Rows.{whole_length, whole_rows}
+use Rattle.stored_mend.specs.Rows.{whole_length}
 use Rattle.stored_mend.specs.declared.report.Mended.{Mended as AnyMended}
 use Rattle.stored_mend.specs.declared.report.Mended.TheVariants.{Relation, Row}
 use Rattle.stored_mend.proofs.FilledRows.{filled_long}
 use Rattle.stored_mend.proofs.OneFile.{ChangesFile, becomes_changes, catalog_no_rows, same_rows_slot, tree_no_rows}
-use Rattle.stored_mend.proofs.ReportSteps.{relation_same, reports_line, rows_line, seen_same, size_same, slot_same, tree_same}
+use Rattle.stored_mend.proofs.ReportSteps.{index_same, relation_same, reports_line, rows_line, seen_same, size_same, slot_same, tree_same}
 
 -- so many slots and no more
 rows_multiple : (attributes : List Attribute) (bytes : List ℕ) (n : ℕ) → length bytes ≡ row_length attributes * n → whole_length attributes bytes ≡ length bytes
@@ -71,6 +69,11 @@ module _ (old new : State) (slot file total : ℕ) (told : List ℕ) (schema : S
         (subst (λ (r : Option Schema). (AreRightRows r (bytes_seen (rows_file slot) old.files) → ⊥) × AreRightRows r (bytes_seen (rows_file slot) new.files)) (sym is) (row_wrong, row_right))))
         (λ (differs : k ≢ slot). inl (row_others k inside differs))
         (cases_eq k slot);
+    lone_rows = λ k inside none. ⊎_elim
+        (λ (here : k ≡ slot). let never : Some schema ≡ None = sym is ∙ ap (relation_seen old.files) (sym here) ∙ none in absurd (cc))
+        (λ (differs : k ≢ slot). inl (row_others k inside differs))
+        (cases_eq k slot);
+    indexes = λ i inside. inl (index_same old.files new.files (rows_file slot) row_changes (catalog_no_rows slot) i);
     trees = λ i inside. inl (row_trees i);
   }
 

@@ -15,12 +15,12 @@ use Rattle.space_model.specs.FileNames.{bytes_in_file, catalog_file, file_named,
 use Rattle.stored.specs.CutTables.{slot_bytes}
 use Rattle.stored.specs.Mended.{whole_bytes, whole_catalog}
 use Rattle.stored.proofs.SoundCut.{named_there}
-use Rattle.stored_mend.specs.Reported.{AreRightRows, ChangesOnce, IsCatalogGone, IsCatalogLonger, IsDone, IsIndexGone, IsRightTree, IsSlotOf, IsTreeChanged, Reports, bytes_seen, index_seen, relation_seen, tree_seen, with_line}
+use Rattle.stored_mend.specs.Reported.{AreRightRows, ChangesOnce, IsCatalogGone, IsCatalogLonger, IsDone, IsIndexGone, IsRightSlot, IsRightTree, IsSlotOf, IsTreeChanged, Reports, bytes_seen, index_seen, most_lines, relation_seen, tree_seen, with_line}
 use Rattle.stored_mend.specs.declared.report.Mended.{Mended as AnyMended}
 use Rattle.stored_mend.specs.declared.report.Mended.TheVariants.{Catalog, Mark, Relation, Attribute as OneAttribute, Row, Tree, Index as OneIndex, Stray}
 use Rattle.stored_mend.proofs.OneFile.{ChangesFile, catalog_no_rows, catalog_no_tree, others_found, rows_no_tree, same_rows_slot, same_tree_slot, tree_no_rows}
 use Rattle.stored_mend.proofs.Replaced.{name_of}
-use Rattle.stored_mend.proofs.ReportOnce.{gone_not, longer_not}
+use Rattle.stored_mend.proofs.ReportOnce.{apart_one, gone_not, longer_not}
 
 -- MAXHEAP alone has a tree
 pub kind_tree : (index : Index) → index.kind ≡ MaxHeap → is_tree (Some index) ≡ true
@@ -28,8 +28,8 @@ kind_tree index kind = ap (λ (k : IndexKind). elim k [ Inline ↦ false | MaxHe
 
 -- ---- a line
 
-pub line_added : (before after : List AnyMended) (line : AnyMended) → after ≡ with_line before line → length before + 1 ≤ 66 → after ≡ before ++ line ∷ []
-line_added before after line is fits = is ∙ ap (λ (b : Bool). if b then before ++ line ∷ [] else before) (lt_true (length before) 66 (omega (arith, fits)))
+pub line_added : (before after : List AnyMended) (line : AnyMended) → after ≡ with_line before line → length before + 1 ≤ most_lines → after ≡ before ++ line ∷ []
+line_added before after line is fits = is ∙ ap (λ (b : Bool). if b then before ++ line ∷ [] else before) (lt_true (length before) most_lines (omega (arith, fits)))
 
 pub reports_line : (a b : State) (before after : List AnyMended) (line : AnyMended) → ChangesOnce a.files b.files → IsDone a.files b.files line → ((other : AnyMended) → IsDone a.files b.files other → other ≡ line)
     → after ≡ with_line before line → Reports 1 a b before after
@@ -38,12 +38,13 @@ reports_line a b before after line once done only is = record {
   few = omega arith;
   behind = λ fits. line_added before after line is fits;
   once = once;
-  lines = record {
+  lines = λ n. record {
     done = λ other there. ⊎_elim
         (λ (none : Contains [] other). let below = none.1 in absurd (omega (arith, below)))
         (λ (same : line ≡ other). subst (IsDone a.files b.files) same done)
         (Contains-push_cases [] line other there);
     told = λ other d. subst (Contains (line ∷ [])) (sym (only other d)) (Contains-push [] line);
+    apart = apart_one line;
   };
 }
 
@@ -187,7 +188,7 @@ seen_gone old new id name r named = ap (option_map (λ (f : File). f.bytes)) (na
 
 -- rows are removed
 module _ (old new : State) (slot : ℕ) (below : slot < 8) (c : ChangesFile old.files new.files (rows_file slot)) (unused : relation_seen old.files slot ≡ None)
-    (was : bytes_seen (rows_file slot) old.files ≢ None) (gone : bytes_seen (rows_file slot) new.files ≡ None) where
+    (right : IsRightSlot None (slot_bytes old.files slot)) (was : bytes_seen (rows_file slot) old.files ≢ None) (gone : bytes_seen (rows_file slot) new.files ≡ None) where
   rows_other : (k : ℕ) → k < 8 → k ≢ slot → bytes_seen (rows_file k) new.files ≡ bytes_seen (rows_file k) old.files
   rows_other k inside differs = seen_same old.files new.files (rows_file slot) c (rows_file k) (λ e. differs (same_rows_slot k slot e))
 
@@ -206,6 +207,11 @@ module _ (old new : State) (slot : ℕ) (below : slot < 8) (c : ChangesFile old.
         (λ (here : k ≡ slot). inr (by_unused k here))
         (λ (differs : k ≢ slot). inl (rows_other k inside differs))
         (cases_eq k slot);
+    lone_rows = λ k inside none. ⊎_elim
+        (λ (here : k ≡ slot). inr (subst (λ (j : ℕ). IsRightSlot None (slot_bytes new.files j)) (sym here) (subst (IsRightSlot None) (sym (slots_all slot)) right)))
+        (λ (differs : k ≢ slot). inl (rows_other k inside differs))
+        (cases_eq k slot);
+    indexes = λ i inside. inl (index_same old.files new.files (rows_file slot) c (catalog_no_rows slot) i);
     trees = λ i inside. inl (trees_all i);
   }
     where
@@ -245,6 +251,8 @@ module _ (old new : State) (slot : ℕ) (below : slot < 8) (c : ChangesFile old.
     catalog = inl (size_same old.files new.files (tree_file slot) c (catalog_no_tree slot));
     slots = λ k inside. inl (stray_slots k);
     rows = λ k inside. inl (stray_rows k);
+    lone_rows = λ k inside none. inl (stray_rows k);
+    indexes = λ i inside. inl (index_same old.files new.files (tree_file slot) c (catalog_no_tree slot) i);
     trees = λ i inside. ⊎_elim
         (λ (here : i ≡ slot). inr (subst (λ (j : ℕ). (IsRightTree (tree_seen old.files j) → ⊥) × IsRightTree (tree_seen new.files j)) (sym here)
         ((λ right. was right.1), (ap is_tree stray_index ∙ treeless, gone))))

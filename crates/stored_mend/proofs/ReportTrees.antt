@@ -1,5 +1,5 @@
 -- Trees that are put right, and the lines that tell them.
-use Rattle.std.proofs.Common.{◌≡◌, ◌≢◌, ◌⊎◌, inl, inr, ⊎_elim, ℕ, ℤ, ◌+◌, ◌*◌, ◌<◌, ◌≤◌, true, false, List, [], ◌∷◌, ◌++◌, length, get_or, Option, Some, None, IsTrue, refl, ap, sym, subst, ◌∙◌, arith, append_assoc, length-append}
+use Rattle.std.proofs.Common.{◌≡◌, ◌≢◌, ◌⊎◌, inl, inr, ⊎_elim, ℕ, ℤ, ◌+◌, ◌*◌, ◌<◌, ◌≤◌, true, false, List, [], ◌∷◌, ◌++◌, length, get_or, Option, Some, None, refl, ap, sym, subst, ◌∙◌, arith, append_assoc, length-append}
 use Rattle.std.specs.Prelude.{Contains, is_some, option_map, slice_get, slice_range}
 use Rattle.std.proofs.lemmas.Bool.{cases_eq}
 use Rattle.std.proofs.lemmas.List.Elements.{Contains-push, Contains-push_cases}
@@ -7,28 +7,28 @@ use Rattle.afl_base.specs.Files.{File, IsNamed, State, Table, bytes_at}
 use Rattle.catalog.specs.declared.types.Catalog.{Catalog as Loaded}
 use Rattle.catalog.specs.declared.types.IndexEntry.{IndexEntry}
 use Rattle.catalog.specs.CatalogFile.{index_in}
-use Rattle.catalog.specs.Rules.{catalog_in, first_broken, is_tree}
+use Rattle.catalog.specs.Rules.{catalog_in, is_tree}
 use Rattle.db_model.specs.declared.schemas.Attribute.{Attribute}
 use Rattle.db_model.specs.declared.schemas.IndexKind.{IndexKind}
 use Rattle.db_model.specs.declared.schemas.IndexKind.TheVariants.{MaxHeap}
 use Rattle.db_model.specs.declared.schemas.Schema.{Schema}
 use Rattle.db_model.specs.Catalog.{Catalog as Slots, Index, catalog_of, index_at, relation_at, relation_slot_of}
 use Rattle.index_tree.specs.Trees.{IsTreeOf}
-use Rattle.padded.proofs.Facts.{none_some, seen_at, some_same}
+use Rattle.padded.proofs.Facts.{seen_at, some_same}
 use Rattle.space_model.specs.FileNames.{bytes_in_file, bytes_named, catalog_file, file_named, is_there, rows_file, size_in, tree_file}
 use Rattle.stored.specs.CutTables.{slot_bytes}
 use Rattle.stored.specs.Mended.{whole_bytes, whole_catalog}
 use Rattle.stored.specs.Sound.{IsIndexComplete, keys_stored}
 use Rattle.stored.proofs.FilesOf.{unbroken}
-use Rattle.stored_mend.specs.Complete.{AreKeysIn, HasSlot, IsComplete, IsSoundButTrees, LosesIndex, LosesTree, SettlesIndex, SparesOtherIndexes}
+use Rattle.stored_mend.specs.Complete.{AreKeysIn, HasSlot, IsComplete, IsSoundButTrees, SparesOtherIndexes}
 use Rattle.stored_mend.specs.Listed.{LacksTree}
-use Rattle.stored_mend.specs.Reported.{ChangesOnce, HasNames, IsCatalogGone, IsCatalogLonger, IsDone, IsIndexGone, IsNoTree, IsOn, IsReported, IsRightTree, IsTreeChanged, Reports, ReportsInTurn, ReportsTrees, SparesSlots, TreesChangeOnce, bytes_seen, index_seen, relation_seen, tree_seen, with_line}
+use Rattle.stored_mend.specs.Reported.{ChangesOnce, HasNamesApart, IsCatalogGone, IsCatalogLonger, IsDone, IsIndexGone, IsNoTree, IsOn, IsReported, IsRightTree, IsTreeChanged, Reports, ReportsInTurn, ReportsTrees, SparesSlots, TreesChangeOnce, bytes_seen, index_seen, most_lines, relation_seen, tree_seen, with_line}
 use Rattle.stored_mend.specs.Trees.{SparesButOne, SparesButTree}
 use Rattle.stored_mend.specs.declared.report.Mended.{Mended as AnyMended}
 use Rattle.stored_mend.specs.declared.report.Mended.TheVariants.{Catalog, Mark, Tree, Index as OneIndex, Stray}
 use Rattle.stored_mend.proofs.OneFile.{catalog_no_rows, catalog_no_tree, rows_no_tree, same_tree_slot}
 use Rattle.stored_mend.proofs.ReportNames.{index_formed, relation_formed, unbroken_names}
-use Rattle.stored_mend.proofs.ReportOnce.{Once, done_early, gone_not, longer_not, on_earlier, on_later, reported_then, reports_then}
+use Rattle.stored_mend.proofs.ReportOnce.{Once, apart_none, apart_one, gone_not, kept_then, longer_not, names_later, on_earlier, on_later, reported_then, reports_then}
 use Rattle.stored_mend.proofs.ReportSteps.{catalog_line, kind_tree, line_added, tree_line}
 use Rattle.stored_mend.proofs.SameRows.{HaveSameRows, index_keeps}
 use Rattle.stored_mend.proofs.TreeFiles.{named_bytes}
@@ -41,6 +41,7 @@ trees_same a = record {
   catalog = refl;
   slots = λ k below. refl;
   rows = λ k below. refl;
+  indexes = λ i below. inl refl;
   trees = λ i below. inl refl;
   complete = λ i below c. c;
 }
@@ -52,6 +53,7 @@ module _ (a b c : Table) (f : TreesChangeOnce a b) (g : TreesChangeOnce b c) whe
     catalog = g.catalog ∙ f.catalog;
     slots = λ k below. g.slots k below ∙ f.slots k below;
     rows = λ k below. g.rows k below ∙ f.rows k below;
+    indexes = λ i below. kept_then _ _ _ (f.indexes i below) (g.indexes i below);
     trees = λ i below. ⊎_elim
         (λ (same : tree_seen b i ≡ tree_seen a i). ⊎_elim
         (λ (stays : tree_seen c i ≡ tree_seen b i). inl (stays ∙ same))
@@ -77,6 +79,8 @@ module _ (a b c : Table) (f : TreesChangeOnce a b) (g : TreesChangeOnce b c) whe
         (g.trees i below))
         (f.trees i below);
     none = λ k below none. g.rows k below ∙ none;
+    kept = f.indexes;
+    lone_rows = λ k below unused. inr (g.slots k below);
   }
 
 pub reports_trees_then : (n m all : ℕ) (a b c : State) (before mid after : List AnyMended) → ReportsTrees n a b before mid → ReportsTrees m b c mid after → n + m ≤ all → ReportsTrees all a c before after
@@ -92,7 +96,9 @@ reports_trees_then n m all a b c before mid after f g room =
           let size : length mid ≡ length before + length f.added = ap (λ (xs : List AnyMended). length xs) first ∙ length-append before f.added in
           g.behind (omega (arith, fits, room, size, many)) ∙ ap (λ (xs : List AnyMended). xs ++ g.added) first ∙ append_assoc before f.added g.added;
       once = trees_then a.files b.files c.files f.once g.once;
-      lines = reported_then a.files b.files c.files (trees_once a.files b.files c.files f.once g.once) f.added g.added f.lines g.lines;
+      lines = λ n.
+          reported_then a.files b.files c.files (trees_once a.files b.files c.files f.once g.once) n f.added g.added
+          (f.lines n) (g.lines (names_later a.files b.files f.once.relations f.once.indexes n));
     }
 
 pub reports_trees_more : (n m : ℕ) (a b : State) (before after : List AnyMended) → ReportsTrees n a b before after → n ≤ m → ReportsTrees m a b before after
@@ -110,7 +116,7 @@ reports_trees_quiet n a b before after once none same = record {
   few = omega arith;
   behind = λ fits. same ∙ sym (append_none before);
   once = once;
-  lines = record { done = λ line there. let below = there.1 in absurd (omega (arith, below)); told = λ line d. absurd (none line d) };
+  lines = λ n. record { done = λ line there. let below = there.1 in absurd (omega (arith, below)); told = λ line d. absurd (none line d); apart = apart_none };
 }
 
 -- where all is as it was nothing was done
@@ -133,12 +139,13 @@ reports_trees_line a b before after line once done only is = record {
   few = omega arith;
   behind = λ fits. line_added before after line is fits;
   once = once;
-  lines = record {
+  lines = λ n. record {
     done = λ other there. ⊎_elim
         (λ (none : Contains [] other). let below = none.1 in absurd (omega (arith, below)))
         (λ (same : line ≡ other). subst (IsDone a.files b.files) same done)
         (Contains-push_cases [] line other there);
     told = λ other d. subst (Contains (line ∷ [])) (sym (only other d)) (Contains-push [] line);
+    apart = apart_one line;
   };
 }
 
@@ -223,6 +230,7 @@ module _ (old new : State) (slot : ℕ) (below : slot < 8) (spares : SparesButTr
         catalog = one_size old.files new.files slot files_same;
         slots = λ k inside. one_slots old.files new.files slot files_same k;
         rows = λ k inside. one_rows old.files new.files slot files_same k;
+        indexes = λ i inside. inl (one_index old.files new.files slot files_same i);
         trees = λ i inside. inl (one_all old.files new.files slot files_same same i);
         complete = λ i inside whole. ⊎_elim
             (λ (here : i ≡ slot). subst (IsComplete new.files) (sym here) (complete_as old.files new.files slot files_same same (subst (IsComplete old.files) here whole)))
@@ -241,6 +249,7 @@ module _ (old new : State) (slot : ℕ) (below : slot < 8) (spares : SparesButTr
       catalog = one_size old.files new.files slot files_same;
       slots = λ k inside. one_slots old.files new.files slot files_same k;
       rows = λ k inside. one_rows old.files new.files slot files_same k;
+      indexes = λ i inside. inl (one_index old.files new.files slot files_same i);
       trees = λ i inside. ⊎_elim
           (λ (here : i ≡ slot). inr (subst (λ (j : ℕ). (IsComplete old.files j → ⊥) × IsComplete new.files j) (sym here) (wrong, right)))
           (λ (differs : i ≢ slot). inl (one_tree old.files new.files slot files_same i differs))
@@ -324,6 +333,10 @@ module _ (old mid new : State) (slot : ℕ) (below : slot < 8) (spares : SparesB
     catalog = lost_size;
     slots = lost_slots;
     rows = λ k inside. lost_rows k;
+    indexes = λ i inside. ⊎_elim
+        (λ (here : i ≡ slot). inr (ap (index_seen new.files) here ∙ none))
+        (λ (differs : i ≢ slot). inl (slots.indexes i differs ∙ one_index old.files mid.files slot lost_files i))
+        (cases_eq i slot);
     trees = λ i inside. ⊎_elim
         (λ (here : i ≡ slot). inr (subst (λ (j : ℕ). (IsComplete old.files j → ⊥) × IsComplete new.files j) (sym here) (wrong, right)))
         (λ (differs : i ≢ slot). inl (lost_trees i differs))
@@ -383,12 +396,15 @@ module _ (old mid new : State) (slot : ℕ) (below : slot < 8) (spares : SparesB
   lost_reports before between after same r = record {
     added = r.added;
     few = r.few;
-    behind = λ fits. r.behind (subst (λ (xs : List AnyMended). length xs + 1 ≤ 66) (sym same) fits) ∙ ap (λ (xs : List AnyMended). xs ++ r.added) same;
+    behind = λ fits. r.behind (subst (λ (xs : List AnyMended). length xs + 1 ≤ most_lines) (sym same) fits) ∙ ap (λ (xs : List AnyMended). xs ++ r.added) same;
     once = lost_once;
-    lines = record {
-      done = λ line there. lost_earlier line (r.lines.done line there);
-      told = λ line d. r.lines.told line (lost_later line d);
-    };
+    lines = λ n.
+        let l = r.lines (names_later old.files mid.files relations_mid (λ i inside. inl (one_index old.files mid.files slot lost_files i)) n) in
+        record {
+          done = λ line there. lost_earlier line (l.done line there);
+          told = λ line d. l.told line (lost_later line d);
+          apart = l.apart;
+        };
   }
 
 -- ---- what a catalog in memory says of an index that has a tree
@@ -498,11 +514,13 @@ module _ (old mid new : Table) (s : IsSoundButTrees mid) (f : ChangesOnce old mi
         (f.trees i below))
         (g.trees i below);
     none = λ k below none. g.rows k below ∙ none;
+    kept = f.indexes;
+    lone_rows = λ k below unused. inr (g.slots k below);
   }
 
 -- each thing that was done has its line
-pub in_turn_reported : (old new : State) (before after : List AnyMended) → ReportsInTurn 50 old new before after → before ≡ [] → IsReported old.files new.files after
-in_turn_reported old new before after r none =
+pub in_turn_reported : (old new : State) (before after : List AnyMended) → HasNamesApart old.files → ReportsInTurn 50 old new before after → before ≡ [] → IsReported old.files new.files after
+in_turn_reported old new before after n r none =
     let f = r.first in
     let g = r.trees in
     let few = f.few in
@@ -511,7 +529,8 @@ in_turn_reported old new before after r none =
     let size : length r.between ≡ length f.added = ap (λ (xs : List AnyMended). length xs) first in
     let all : after ≡ f.added ++ g.added = g.behind (omega (arith, size, few)) ∙ ap (λ (xs : List AnyMended). xs ++ g.added) first in
     subst (IsReported old.files new.files) (sym all)
-    (reported_then old.files r.mid.files new.files (turn_once old.files r.mid.files new.files r.sound f.once g.once) f.added g.added f.lines g.lines)
+    (reported_then old.files r.mid.files new.files (turn_once old.files r.mid.files new.files r.sound f.once g.once) n f.added g.added
+    (f.lines n) (g.lines (names_later old.files r.mid.files f.once.relations f.once.indexes n)))
 
 pub in_turn_then : (n m all : ℕ) (a b c : State) (before mid after : List AnyMended) → Reports n a b before mid → ReportsInTurn m b c mid after → n + m ≤ all → ReportsInTurn all a c before after
 in_turn_then n m all a b c before mid after f r room = record {

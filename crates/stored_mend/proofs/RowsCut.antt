@@ -1,34 +1,13 @@
 -- What a cut leaves of the file of a relation's rows.
 use Rattle.std.proofs.Common.{◌≡◌, ℕ, ◌+◌, List, ◌++◌, length, take, drop, refl, ap, sym, subst, ◌∙◌}
-use Rattle.std.specs.Prelude.{Err, IsErrOf, Ok, Result}
 use Rattle.std.proofs.lemmas.List.{take-append-drop}
 use Rattle.afl_base.specs.CutFiles.{AppendsFront}
-use Rattle.afl_base.specs.FileErrors.{OnSpace}
 use Rattle.afl_base.specs.Files.{Appends, KeepsBytes, State, bytes_at}
-use Rattle.afl_base.specs.declared.kind.FileError.{FileError}
-use Rattle.afl_base.specs.declared.kind.FileError.TheVariants.{Failed, Space}
 use Rattle.afl_base.proofs.FileLaws.{becomes_then}
 use Rattle.afl_base.proofs.FrameLaws.{becomes_as}
 use Rattle.db_model.specs.declared.schemas.Attribute.{Attribute}
 use Rattle.stored_mend.specs.Filled.{FillsPart, IsRemovedRow, part_of_row, row_before}
 use Rattle.stored_mend.specs.RowsCut.{AppendsFilling}
-
--- a call failed as the last one did
-pub failed_as : (A T : Type 0) (e : FileError) (result : Result T FileError) → result ≡ Err e → IsErrOf result Failed → IsErrOf {T = A} (Err e) Failed
-failed_as A T (Space need) result is failed = let no : ◌≡◌ {A = Result T FileError} (Err (Space need)) (Err Failed) = sym is ∙ failed in absurd (cc)
-failed_as A T Failed result is failed = refl
-
--- no call failed that did not
-pub not_failed : (T : Type 0) (x : T) (P : Type 0) → IsErrOf (Ok x) Failed → P
-not_failed T x P failed = let no : ◌≡◌ {A = Result T FileError} (Ok x) (Err Failed) = failed in absurd (cc)
-
--- pages are lacking as they were for the last one
-pub space_as : (A T : Type 0) (e : FileError) (result : Result T FileError) → result ≡ Err e → (P Q : ℕ → Type 0) → ((need : ℕ) → P need → Q need) → OnSpace {T = A} (Err e) P → OnSpace result Q
-space_as A T e result is P Q follows lacks = subst (λ (r : Result T FileError). OnSpace r Q) (sym is) (by_error e lacks)
-  where
-    by_error : (f : FileError) → OnSpace {T = A} (Err f) P → OnSpace {T = T} (Err f) Q
-    by_error (Space need) p = follows need p
-    by_error Failed p = tt
 
 -- ---- bytes behind those of a file that was prepared
 

@@ -1,28 +1,26 @@
 -- Files whose catalog is sound are ones that a cut can have left: of rows and trees one thing at most is half done.
-use Rattle.std.proofs.Common.{◌≡◌, ◌⊎◌, inl, inr, ⊎_elim, ℕ, ◌+◌, ◌*◌, ◌<◌, ◌≤◌, Bool, true, false, not, List, [], ◌∷◌, length, map, replicate, take, get_or, Option, Some, None, refl, ap, sym, subst, ◌∙◌, arith}
-use Rattle.std.specs.Prelude.{is_some, option_map, slice_range}
+use Rattle.std.proofs.Common.{◌≡◌, ◌⊎◌, inl, inr, ⊎_elim, ℕ, ◌+◌, ◌<◌, ◌≤◌, true, false, List, [], ◌∷◌, length, map, replicate, get_or, Option, None, refl, ap, sym, subst, ◌∙◌, arith}
+use Rattle.std.specs.Prelude.{is_some, option_map}
 use Rattle.std.specs.List.{range_with_len}
 use Rattle.std.proofs.lemmas.Bool.{cases_eq}
-use Rattle.std.proofs.lemmas.List.FromFn.{get_or-map-range_with_len}
 use Rattle.afl_base.specs.declared.kind.Kind.TheVariants.{Doubling, Fixed}
 use Rattle.afl_base.specs.Files.{File, Table}
-use Rattle.catalog.specs.Rules.{breaks_files, breaks_index, breaks_relation, catalog_bytes_in, catalog_in, differ, is_named_among, is_relation_slot, is_sound_relation, is_tree}
+use Rattle.catalog.specs.Rules.{breaks_files, catalog_bytes_in, catalog_in, is_tree}
 use Rattle.catalog.proofs.Breaks.{big_enough}
 use Rattle.db_model.specs.declared.schemas.Schema.{Schema}
-use Rattle.db_model.specs.Catalog.{Index, catalog_of, index_at, relation_at, version_of}
-use Rattle.padded.proofs.Facts.{both_parts, none_there, not_not, untrue}
+use Rattle.db_model.specs.Catalog.{relation_at}
+use Rattle.padded.proofs.Facts.{none_there}
 use Rattle.space_model.specs.FileNames.{catalog_file, is_there, rows_file, tree_file}
-use Rattle.stored.specs.CutTables.{IsBegun, IsCutTable, IsHalfDone, IsSlot, index_read, relation}
-use Rattle.stored.specs.Mended.{mended_catalog, whole_catalog}
+use Rattle.stored.specs.CutTables.{IsBegun, IsCutTable, IsHalfDone, index_read, relation}
+use Rattle.stored.specs.Mended.{mended_catalog}
 use Rattle.stored.specs.declared.half.Half.{Half}
 use Rattle.stored.specs.declared.half.Half.TheVariants.{Nothing, Emptying, Growing, LoneRows, Treeless, LoneTree, AddingRow, AddingKey}
 use Rattle.stored.proofs.FilesOf.{IsNumbered, Unbroken, by_kind, first_false, rows_wanted, tree_wanted, unbroken}
 use Rattle.stored.proofs.HasFiles.{formed, no_stranger}
-use Rattle.stored.proofs.MendedSound.{own_catalog}
 use Rattle.stored.proofs.SoundCut.{named_there}
-use Rattle.stored.proofs.SoundSlots.{IsUnbroken, kept, unbroken_slots}
 use Rattle.stored_mend.specs.Stages.{HasWholeRows, IsCatalogSound}
-use Rattle.stored_mend.proofs.SoundCatalog.{form_size, version_read, whole_is}
+use Rattle.stored_mend.proofs.SoundCatalog.{form_size, version_read}
+use Rattle.stored_mend.proofs.WholeSlots.{has_mark, index_fine, index_is, named_alone, no_index, relation_is, same_used, slot_is}
 
 -- ---- what is half done in a sound catalog: rows or trees, or nothing
 
@@ -58,16 +56,6 @@ module _ (files : Table) where
   plainly (AddingRow j) s = (AddingRow j, record { emptying = λ k e. cc; growing = λ k e. cc }, s)
   plainly (AddingKey j) s = (AddingKey j, record { emptying = λ k e. cc; growing = λ k e. cc }, s)
 
-same_used : (there used : Bool) → differ there used ≡ false → there ≡ used
-same_used true true e = refl
-same_used true false e = cc
-same_used false true e = cc
-same_used false false e = refl
-
-whole_slot : (half : Half) (version k : ℕ) (slot : List ℕ) (o : Option Schema) → is_relation_slot version slot o ≡ true → IsSlot half version k slot o
-whole_slot half version k slot None e = inl e
-whole_slot half version k slot (Some schema) e = inl e
-
 nothing : (bytes : List ℕ) → length bytes ≡ 0 → bytes ≡ []
 nothing [] e = refl
 nothing (b ∷ bytes) e = absurd (omega (arith, e))
@@ -75,18 +63,12 @@ nothing (b ∷ bytes) e = absurd (omega (arith, e))
 no_relations : map (relation_at []) (range_with_len 0 8) ≡ replicate 8 None
 no_relations = refl
 
-no_indexes : map (index_at []) (range_with_len 0 8) ≡ replicate 8 None
-no_indexes = refl
-
 module _ (files : Table) (half : Half) (plain : IsPlain half) (s : IsCatalogSound files half) where
   abbrev bytes : List ℕ
   bytes = catalog_bytes_in files
 
   parts : Unbroken files
   parts = unbroken files s.catalog
-
-  slots_are : IsUnbroken bytes
-  slots_are = unbroken_slots bytes parts.inner
 
   rows_are_there : (k : ℕ) → k < 8 → is_there (rows_file k) files ≡ is_some (get_or (catalog_in files).relations k None)
   rows_are_there k below =
@@ -101,54 +83,28 @@ module _ (files : Table) (half : Half) (plain : IsPlain half) (s : IsCatalogSoun
   -- ---- a catalog with all slots
 
   module _ (long : 1472 ≤ length (catalog_bytes_in files)) where
-    whole_here : whole_catalog files ≡ bytes
-    whole_here = whole_is files s.catalog
-
-    version_is : (mended_catalog files).version ≡ version_of bytes
+    version_is : (mended_catalog files).version ≡ (catalog_in files).version
     version_is = version_read files s.catalog
 
-    relations_are : (mended_catalog files).relations ≡ (catalog_in files).relations
-    relations_are = (own_catalog files s.catalog).relations
+    relation_here : (k : ℕ) → relation files k ≡ get_or (catalog_in files).relations k None
+    relation_here = relation_is files parts.inner long version_is
 
-    relation_is : (k : ℕ) → relation files k ≡ get_or (catalog_in files).relations k None
-    relation_is k = ap (λ (xs : List (Option Schema)). get_or xs k None) relations_are
-
-    index_is : (i : ℕ) → index_read files i ≡ get_or (catalog_in files).indexes i None
-    index_is i = ap (λ (b : List ℕ). get_or (catalog_of b).indexes i None) whole_here
-
-    some : length bytes ≡ 0 → ⊥
-    some none = omega (arith, long, none)
-
-    slot_kept : (k : ℕ) → k < 8 → is_sound_relation (version_of bytes) (slice_range bytes (176 * k) (176 * k + 176)) (take k (catalog_of bytes).relations) ≡ true
-    unfolding breaks_relation
-    slot_kept k below =
-        not_not (is_sound_relation (version_of bytes) (slice_range bytes (176 * k) (176 * k + 176)) (take k (catalog_of bytes).relations))
-        (kept bytes (breaks_relation bytes) k below some slots_are.relations)
+    index_here : (i : ℕ) → index_read files i ≡ get_or (catalog_in files).indexes i None
+    index_here = index_is files parts.inner long version_is
 
     half_done : IsHalfDone files half
     half_done = record {
       whole = long;
-      mark = inl (formed bytes parts.inner, sym version_is);
-      slots = λ k below.
-          let slot : List ℕ = slice_range bytes (176 * k) (176 * k + 176) in
-          let p = both_parts (is_relation_slot (version_of bytes) slot (relation_at bytes k)) (not (is_named_among (relation_at bytes k) (take k (catalog_of bytes).relations))) (slot_kept k below) in
-          let here : relation_at bytes k ≡ relation files k = sym (get_or-map-range_with_len (relation_at bytes) 0 8 k k None below (omega arith)) ∙ sym (relation_is k) in
-          subst (λ (b : List ℕ). IsSlot half (mended_catalog files).version k (slice_range b (176 * k) (176 * k + 176)) (relation files k)) (sym whole_here)
-          (subst (λ (v : ℕ). IsSlot half v k slot (relation files k)) (sym version_is)
-          (whole_slot half (version_of bytes) k slot (relation files k) (subst (λ (o : Option Schema). is_relation_slot (version_of bytes) slot o ≡ true) here p.0)));
-      named_once = λ k below.
-          let slot : List ℕ = slice_range bytes (176 * k) (176 * k + 176) in
-          let p = both_parts (is_relation_slot (version_of bytes) slot (relation_at bytes k)) (not (is_named_among (relation_at bytes k) (take k (catalog_of bytes).relations))) (slot_kept k below) in
-          let here : relation_at bytes k ≡ relation files k = sym (get_or-map-range_with_len (relation_at bytes) 0 8 k k None below (omega arith)) ∙ sym (relation_is k) in
-          subst (λ (xs : List (Option Schema)). is_named_among (relation files k) (take k xs) ≡ false) (sym relations_are)
-          (subst (λ (o : Option Schema). is_named_among o (take k (catalog_of bytes).relations) ≡ false) here (untrue (is_named_among (relation_at bytes k) (take k (catalog_of bytes).relations)) p.1));
-      indexes = λ i below. subst (λ (b : List ℕ). breaks_index b i ≡ false) (sym whole_here) (kept bytes (breaks_index bytes) i below some slots_are.indexes);
+      mark = has_mark files parts.inner long version_is half;
+      slots = slot_is files parts.inner long version_is half;
+      named_once = named_alone files parts.inner long version_is;
+      indexes = index_fine files parts.inner long version_is;
       rows_there = λ k below. ⊎_elim
-          (λ (used : is_some (relation files k) ≡ true). rows_are_there k below ∙ sym (ap is_some (relation_is k)) ∙ used)
+          (λ (used : is_some (relation files k) ≡ true). rows_are_there k below ∙ sym (ap is_some (relation_here k)) ∙ used)
           (λ (emptying : half ≡ Emptying k). absurd (plain.emptying k emptying));
-      rows_lone = λ k below there. inl (ap is_some (relation_is k) ∙ sym (rows_are_there k below) ∙ there);
-      tree_there = λ i below used. inl (tree_is_there i below ∙ sym (ap is_tree (index_is i)) ∙ used);
-      tree_lone = λ i below there. inl (ap is_tree (index_is i) ∙ sym (tree_is_there i below) ∙ there);
+      rows_lone = λ k below there. inl (ap is_some (relation_here k) ∙ sym (rows_are_there k below) ∙ there);
+      tree_there = λ i below used. inl (tree_is_there i below ∙ sym (ap is_tree (index_here i)) ∙ used);
+      tree_lone = λ i below there. inl (ap is_tree (index_here i) ∙ sym (tree_is_there i below) ∙ there);
       grown = λ k growing. absurd (plain.growing k growing);
       rows = s.rows;
       keys = s.keys;
@@ -160,11 +116,6 @@ module _ (files : Table) (half : Half) (plain : IsPlain half) (s : IsCatalogSoun
   no_relation none k =
       ap (λ (b : List ℕ). get_or (map (relation_at b) (range_with_len 0 8)) k None) none
       ∙ ap (λ (xs : List (Option Schema)). get_or xs k None) no_relations ∙ none_there 8 k
-
-  no_index : bytes ≡ [] → (i : ℕ) → get_or (catalog_in files).indexes i None ≡ None
-  no_index none i =
-      ap (λ (b : List ℕ). get_or (map (index_at b) (range_with_len 0 8)) i None) none
-      ∙ ap (λ (xs : List (Option Index)). get_or xs i None) no_indexes ∙ none_there 8 i
 
   begun : bytes ≡ [] → IsBegun files
   begun none = record {
@@ -180,7 +131,7 @@ module _ (files : Table) (half : Half) (plain : IsPlain half) (s : IsCatalogSoun
         absurd (let n : ⊥ = cc in n))
         (λ (m : IsNumbered 88 f.name).
         let here : is_there (tree_file m.slot) files ≡ true = subst (λ (name : List ℕ). is_there name files ≡ true) m.is there in
-        let no : false ≡ true = sym (ap is_tree (no_index none m.slot)) ∙ sym (tree_is_there m.slot m.below) ∙ here in
+        let no : false ≡ true = sym (ap is_tree (no_index bytes none m.slot)) ∙ sym (tree_is_there m.slot m.below) ∙ here in
         absurd (let n : ⊥ = cc in n))
         n.0)
         (by_kind f.name f.kind (no_stranger files id f e (s.known id)));

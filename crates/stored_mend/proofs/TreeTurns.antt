@@ -39,7 +39,8 @@ use Rattle.stored_mend.proofs.HeapSettled.{tree_is_there, tree_keeps, tree_lacks
 use Rattle.stored_mend.proofs.OneFile.{catalog_no_tree, same_tree_slot}
 use Rattle.stored_mend.proofs.SameRows.{rows_keep}
 use Rattle.stored_mend.proofs.TreeFiles.{built_now, built_there, gone_there}
-use Rattle.stored_mend.proofs.Treeless.{half_done, long_or_none, no_index, same_used}
+use Rattle.stored_mend.proofs.Treeless.{half_done, long_or_none}
+use Rattle.stored_mend.proofs.WholeSlots.{no_index, same_used}
 use Rattle.stored_mend.proofs.TreesLost.{kept_by, lost, loses_same}
 
 -- ---- those for which there is room

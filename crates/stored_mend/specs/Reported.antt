@@ -1,5 +1,5 @@
 -- Which lines a report has: one exactly where something was changed.
-use Rattle.std.specs.Prelude.{◌≡◌, ◌≢◌, ◌⊎◌, ⊤, ℕ, ℤ, ◌+◌, ◌-◌, ◌*◌, ◌<◌, ◌≤◌, false, List, [], ◌∷◌, ◌++◌, Contains, length, nat_lt, replicate, slice_get, slice_range, option_map, Option, Some, None, if◌then◌else◌}
+use Rattle.std.specs.Prelude.{◌≡◌, ◌≢◌, ◌⊎◌, ⊤, ℕ, ℤ, ◌+◌, ◌-◌, ◌*◌, ◌<◌, ◌≤◌, false, List, [], ◌∷◌, ◌++◌, AllPairs, Contains, length, nat_lt, replicate, slice_get, slice_range, option_map, Option, Some, None, if◌then◌else◌}
 use Rattle.afl_base.specs.Files.{File, State, Table}
 use Rattle.catalog.specs.Rules.{catalog_bytes_in, is_tree}
 use Rattle.db_model.specs.declared.schemas.Attribute.{Attribute}
@@ -127,10 +127,17 @@ IsDone old new (Tree name attribute) = IsTreeChanged old new name attribute
 IsDone old new (OneIndex name attribute) = IsIndexGone old new name attribute
 IsDone old new (Stray i) = IsTreeGone old new i
 
--- there is a line for all that was done, and for nothing else
+-- there is one line for all that was done, and none for anything else
 pub record IsReported (old new : Table) (lines : List AnyMended) : Type 0 where
   pub done : (line : AnyMended) → Contains lines line → IsDone old new line
   pub told : (line : AnyMended) → IsDone old new line → Contains lines line
+  pub apart : AllPairs (λ line other. line ≢ other) lines
+
+-- no two relations have one name, and no two indexes stand on one attribute, by their names
+pub record HasNamesApart (files : Table) : Type 0 where
+  pub relations : (k j : ℕ) (name : List ℕ) → IsSlotOf files k name → IsSlotOf files j name → k ≡ j
+  pub indexes : (i j : ℕ) (index other : Index) (name attribute : List ℕ) → IsIndexOn files i index name attribute → IsIndexOn files j other name attribute
+      → i ≡ j
 
 -- ---- a step of the work
 
@@ -142,9 +149,9 @@ StaysOrIsRight IsRight old new = (new ≡ old) ⊎ ((IsRight old → ⊥) × IsR
 abbrev pub IsRightCatalog : Option ℕ → Type 0
 IsRightCatalog size = (size ≡ None) ⊎ (size ≡ Some 1480)
 
--- an unused slot, or zeros behind the attributes
+-- an unused slot, or none, or zeros behind the attributes
 abbrev pub IsRightSlot : Option Schema → List ℕ → Type 0
-IsRightSlot None slot = slot ≡ relation_slot_bytes None
+IsRightSlot None slot = (slot ≡ relation_slot_bytes None) ⊎ (slot ≡ [])
 IsRightSlot (Some schema) slot =
     slice_range slot (16 + 18 * length schema.attributes) 160 ≡ replicate (144 - 18 * length schema.attributes) 0
 
@@ -157,25 +164,39 @@ AreRightRows (Some schema) rows = (bytes : List ℕ) → rows ≡ Some bytes →
 abbrev pub IsRightTree : Option Index × Option (List ℕ) → Type 0
 IsRightTree tree = (is_tree tree.0 ≡ false) × (tree.1 ≡ None)
 
+-- an index stays, or is gone
+abbrev pub IsKeptOrGone : (old new : Option Index) → Type 0
+IsKeptOrGone old new = (new ≡ old) ⊎ (new ≡ None)
+
+-- rows without a relation stay, or their slot is right
+abbrev pub StaysOrHasSlot : (old new : Table) → (k : ℕ) → Type 0
+StaysOrHasSlot old new k = (bytes_seen (rows_file k) new ≡ bytes_seen (rows_file k) old) ⊎ IsRightSlot None (slot_bytes new k)
+
 -- each thing changes once at most
 pub record ChangesOnce (old new : Table) : Type 0 where
   pub relations : (k : ℕ) → k < 8 → relation_seen new k ≡ relation_seen old k
   pub catalog : StaysOrIsRight IsRightCatalog (size_in old catalog_file) (size_in new catalog_file)
   pub slots : (k : ℕ) → k < 8 → StaysOrIsRight (IsRightSlot (relation_seen old k)) (slot_bytes old k) (slot_bytes new k)
   pub rows : (k : ℕ) → k < 8 → StaysOrIsRight (AreRightRows (relation_seen old k)) (bytes_seen (rows_file k) old) (bytes_seen (rows_file k) new)
+  pub lone_rows : (k : ℕ) → k < 8 → relation_seen old k ≡ None → StaysOrHasSlot old new k
+  pub indexes : (i : ℕ) → i < 8 → IsKeptOrGone (index_seen old i) (index_seen new i)
   pub trees : (i : ℕ) → i < 8 → StaysOrIsRight IsRightTree (tree_seen old i) (tree_seen new i)
 
--- a step adds these lines at most, where there is room for them, and they are those of what it changed
+-- the most lines of a report
+abbrev pub most_lines : ℕ
+most_lines = 66
+
+-- a step adds these lines at most, where there is room for them, and they are those of what it changed, where names are apart
 pub record Reports (most : ℕ) (old new : State) (before after : List AnyMended) : Type 0 where
   pub added : List AnyMended
   pub few : length added ≤ most
-  pub behind : length before + most ≤ 66 → after ≡ before ++ added
+  pub behind : length before + most ≤ most_lines → after ≡ before ++ added
   pub once : ChangesOnce old.files new.files
-  pub lines : IsReported old.files new.files added
+  pub lines : HasNamesApart old.files → IsReported old.files new.files added
 
 -- lines and one more, as far as there is room
 abbrev pub with_line : List AnyMended → AnyMended → List AnyMended
-with_line lines line = if nat_lt (length lines) 66 then lines ++ line ∷ [] else lines
+with_line lines line = if nat_lt (length lines) most_lines then lines ++ line ∷ [] else lines
 
 -- where the index in a slot has a tree, it stands on an attribute that can be read
 pub record HasNames (files : Table) (slot : ℕ) : Type 0 where
@@ -200,15 +221,16 @@ pub record TreesChangeOnce (old new : Table) : Type 0 where
   pub catalog : size_in new catalog_file ≡ size_in old catalog_file
   pub slots : (k : ℕ) → k < 8 → slot_bytes new k ≡ slot_bytes old k
   pub rows : (k : ℕ) → k < 8 → bytes_seen (rows_file k) new ≡ bytes_seen (rows_file k) old
+  pub indexes : (i : ℕ) → i < 8 → IsKeptOrGone (index_seen old i) (index_seen new i)
   pub trees : (i : ℕ) → i < 8 → (tree_seen new i ≡ tree_seen old i) ⊎ ((IsComplete old i → ⊥) × IsComplete new i)
   pub complete : (i : ℕ) → i < 8 → IsComplete old i → IsComplete new i
 
 pub record ReportsTrees (most : ℕ) (old new : State) (before after : List AnyMended) : Type 0 where
   pub added : List AnyMended
   pub few : length added ≤ most
-  pub behind : length before + most ≤ 66 → after ≡ before ++ added
+  pub behind : length before + most ≤ most_lines → after ≡ before ++ added
   pub once : TreesChangeOnce old.files new.files
-  pub lines : IsReported old.files new.files added
+  pub lines : HasNamesApart old.files → IsReported old.files new.files added
 
 -- ---- one after the other
 

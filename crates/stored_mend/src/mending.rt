@@ -27,7 +27,7 @@ use crate::trees::mend_all_trees;
 use afl_base::{Failed, FileError, Files};
 use catalog::{Catalog, load};
 
-/// Repairs files in which a cut left a part of a change, as `may_be_cut` tells, and reports what it did, with a line
+/// Repairs files in which a cut left a part of a change, as `may_be_cut` tells, and reports what it did, with one line
 /// for each thing that it changed and no other: they are sound then. It makes room before each change, and
 /// `Space` has the pages that were lacking.
 /// Where it is cut itself, or has no space, it leaves files that a cut can have left. They mend to the
@@ -179,7 +179,8 @@ fn remove_strays<V: Files>(files: &mut V, report: &mut Report) -> Result<(), Fil
         → OnSpace result (λ _. IsCutState (V.state files.new)
         (λ db. db ≡ mended_base (V.state files.old).files)) }
     ensures frame { ChangesOrLacks V.state V.lent V.reads V.faults V.lacks files.old files.new result }
-    ensures reported { IsTrue (V.state files.old).tells → OnOk result
+    ensures reported { IsTrue (V.state files.old).tells
+        → IsListedTo (indexes_below 8) (V.state files.old).files → OnOk result
         (Reports 16 (V.state files.old) (V.state files.new) report.old.mended report.new.mended) }
 {
     for slot in 0..8u16 {

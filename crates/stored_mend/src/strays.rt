@@ -29,7 +29,8 @@ pub fn remove_rows<V: Files>(files: &mut V, slot: u16, report: &mut Report) -> R
         → CutMends V.cuts V.mends V.state files.new (OnErr result)
         (λ db. db ≡ mended_base (V.state files.old).files) }
     ensures frame { Changes V.state V.lent V.reads V.faults files.old files.new result }
-    ensures reported { IsTrue (V.state files.old).tells → OnOk result
+    ensures reported { IsTrue (V.state files.old).tells
+        → IsListedTo (rows_below slot) (V.state files.old).files → OnOk result
         (Reports 1 (V.state files.old) (V.state files.new) report.old.mended report.new.mended) }
 {
     let first = first_byte(files, 176 * u32::from(slot))?;

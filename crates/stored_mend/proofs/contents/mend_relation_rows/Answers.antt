@@ -8,8 +8,8 @@ use Rattle.stored_mend.proofs.HalfKept.{relation_at_slot}
 use Rattle.stored_mend.proofs.ReportOnce.{reports_nothing}
 use Rattle.std.specs.Prelude.{⊤}
 use Rattle.padded.proofs.Facts.{err_is}
-use Rattle.stored_mend.proofs.RowsCut.{failed_as, not_failed, space_as}
 use Rattle.stored_mend.proofs.RowsInterrupted.{rows_cut, rows_space}
+use Rattle.stored_mend.proofs.CutCalls.{failed_as, not_failed, space_as}
 use Rattle.stored_mend.proofs.contents.mend_relation_rows.Goals as goal
 
 pub returns-in_ok-mend_rows_of-in-Some-clause-kept : goal.returns-in_ok-mend_rows_of-in-Some-clause-kept

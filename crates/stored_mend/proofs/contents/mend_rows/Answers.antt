@@ -9,8 +9,7 @@ use Rattle.stored_mend.proofs.ReportOnce.{reports_nothing}
 use Rattle.std.specs.Prelude.{⊤}
 use Rattle.padded.proofs.Facts.{err_is}
 use Rattle.stored_mend.specs.RowsCut.{IsFilledOne}
-use Rattle.stored_mend.proofs.CutCalls.{left_as, state_as}
-use Rattle.stored_mend.proofs.RowsCut.{failed_as, not_failed, space_as}
+use Rattle.stored_mend.proofs.CutCalls.{failed_as, left_as, not_failed, space_as, state_as}
 use Rattle.stored_mend.proofs.contents.mend_rows.Goals as goal
 
 pub returns-in_ok-mend_relation_rows-in-Some-clause-kept : goal.returns-in_ok-mend_relation_rows-in-Some-clause-kept

@@ -9,8 +9,8 @@ use Rattle.stored_mend.proofs.ReportRows.{cut_reports, filled_reports}
 use Rattle.std.specs.Prelude.{⊤}
 use Rattle.afl_base.proofs.CutLaws.{mends_as}
 use Rattle.padded.proofs.Facts.{err_is}
-use Rattle.stored_mend.proofs.RowsCut.{failed_as, space_as}
 use Rattle.stored_mend.proofs.RowsMay.{cut_may, fills_may, part_kept, part_still}
+use Rattle.stored_mend.proofs.CutCalls.{failed_as, space_as}
 use Rattle.stored_mend.proofs.contents.mend_rows_of.Goals as goal
 
 pub returns-then-branch-clause-end : goal.returns-then-branch-clause-end

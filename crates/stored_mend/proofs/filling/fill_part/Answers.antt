@@ -5,7 +5,8 @@ use Rattle.afl_base.proofs.CutLaws.{mends_as}
 use Rattle.db_model.specs.Row.{row_length, slots_in_bytes}
 use Rattle.padded.proofs.Facts.{err_is}
 use Rattle.stored_mend.proofs.FilledRows.{filled_by, row_fits}
-use Rattle.stored_mend.proofs.RowsCut.{failed_as, front_fills}
+use Rattle.stored_mend.proofs.RowsCut.{front_fills}
+use Rattle.stored_mend.proofs.CutCalls.{failed_as}
 use Rattle.stored_mend.proofs.filling.fill_part.Goals as goal
 
 pub append_rest-requires-clause-most : goal.append_rest-requires-clause-most

@@ -9,9 +9,8 @@ use Rattle.stored_mend.proofs.WholeRows.{makes_all, makes_nothing, makes_then, m
 use Rattle.stored_mend.proofs.Together.{not_ok}
 use Rattle.db_model.specs.Catalog.{catalog_of}
 use Rattle.padded.proofs.Facts.{err_is}
-use Rattle.stored_mend.proofs.CutCalls.{left_as, state_as}
+use Rattle.stored_mend.proofs.CutCalls.{failed_as, left_as, not_failed, space_as, state_as}
 use Rattle.stored_mend.proofs.Framed.{then_err}
-use Rattle.stored_mend.proofs.RowsCut.{failed_as, not_failed, space_as}
 use Rattle.stored_mend.proofs.RowsInterrupted.{filled_all}
 use Rattle.stored_mend.proofs.mending.mend_all_rows.Goals as goal
 

@@ -1,10 +1,12 @@
-use Rattle.std.proofs.Common.{rules, ◌∙◌, ◌+◌, ◌*◌, arith}
+use Rattle.std.proofs.Common.{rules, ◌≡◌, ◌∙◌, ◌+◌, ◌*◌, arith}
 use Rattle.stored_mend.proofs.CatalogKept.{mends_then}
 use Rattle.stored_mend.proofs.ReportNames.{listed_names}
 use Rattle.stored_mend.proofs.ReportOnce.{reports_then}
 use Rattle.db_model.specs.Database.{Database}
+use Rattle.stored.specs.Mended.{mended_base}
+use Rattle.stored_mend.specs.Interrupted.{IsCutState}
 use Rattle.stored_mend.specs.Listed.{indexes_below}
-use Rattle.stored_mend.proofs.CutCalls.{failed_handed, left_as}
+use Rattle.stored_mend.proofs.CutCalls.{failed_handed, left_as, space_handed, state_as}
 use Rattle.stored_mend.proofs.CutListed.{listed_is_cut}
 use Rattle.stored_mend.proofs.mending.mend_catalog.Goals as goal
 
@@ -33,6 +35,18 @@ returns-in_err-mend_index-clause-cut g c = λ told cut cuts failed.
     (c.mend_index.ensures.cut (before.kept.tells ∙ told) (listed_is_cut (indexes_below c.loop-slot-2.slot) mid.files (before.listed told cut)) cuts
     (failed_handed c.mend_index.result c.from_residual-in_err-mend_index.result c.in_err-mend_index.field-0.0 c.in_err-mend_index.was c.from_residual-in_err-mend_index.ensures.1 failed))
     (λ (db : Database) same. same ∙ before.kept.base told)
+
+pub returns-in_err-mend_index-clause-space : goal.returns-in_err-mend_index-clause-space
+returns-in_err-mend_index-clause-space g c = λ told cut.
+    let before = c.loop-slot-2.invariant in
+    let old = g.V.Files.state c.args.files.now in
+    let mid = g.V.Files.state c.loop-slot-2.files in
+    let new = g.V.Files.state c.mend_index.new.files in
+    space_handed c.mend_index.result c.from_residual-in_err-mend_index.result c.in_err-mend_index.field-0.0
+    (IsCutState new (λ (db : Database). db ≡ mended_base mid.files)) (IsCutState new (λ (db : Database). db ≡ mended_base old.files))
+    c.in_err-mend_index.was c.from_residual-in_err-mend_index.ensures.1
+    (λ left. state_as new (λ (db : Database) same. same ∙ before.kept.base told) left)
+    (c.mend_index.ensures.space (before.kept.tells ∙ told) (listed_is_cut (indexes_below c.loop-slot-2.slot) mid.files (before.listed told cut)))
 
 pub loop-slot-init : goal.loop-slot-init
 loop-slot-init g c =

@@ -4,10 +4,9 @@ use Rattle.db_model.specs.Catalog.{catalog_of}
 use Rattle.padded.proofs.Facts.{err_is}
 use Rattle.stored.specs.Mended.{mended_base}
 use Rattle.stored_mend.specs.Trees.{LacksRoom}
-use Rattle.stored_mend.proofs.CutCalls.{left_as, state_as}
+use Rattle.stored_mend.proofs.CutCalls.{failed_as, left_as, not_failed, space_as, state_as}
 use Rattle.stored_mend.proofs.Framed.{kept_ok, not_ok, then_err}
 use Rattle.stored_mend.proofs.PutRight.{right_by, right_filled, right_trees}
-use Rattle.stored_mend.proofs.RowsCut.{failed_as, not_failed, space_as}
 use Rattle.stored_mend.proofs.FromWhole.{whole_sound}
 use Rattle.stored_mend.proofs.mending.mend_contents.Goals as goal
 

@@ -6,9 +6,9 @@ use Rattle.stored.specs.Mended.{mended_base}
 use Rattle.stored.proofs.MendedSound.{mended_of_sound}
 use Rattle.stored_mend.specs.Mending.{IsPutRight}
 use Rattle.stored_mend.specs.Trees.{LacksRoom}
-use Rattle.stored_mend.proofs.CutCalls.{left_as, state_as}
+use Rattle.stored_mend.proofs.CutCalls.{failed_as, left_as, not_failed, space_as, state_as}
+use Rattle.stored_mend.proofs.NamesApart.{cut_apart}
 use Rattle.stored_mend.proofs.PutRight.{mends_right, put_right_same, right_any}
-use Rattle.stored_mend.proofs.RowsCut.{failed_as, not_failed, space_as}
 use Rattle.stored_mend.proofs.ReportTrees.{in_turn_reported, in_turn_then}
 use Rattle.stored_mend.proofs.mending.mend_database.Goals as goal
 
@@ -75,6 +75,6 @@ returns-clause-cut g c = λ told cut cuts failed. not_failed _ _ _ failed
 pub returns-clause-reported : goal.returns-clause-reported
 returns-clause-reported g c = λ told cut none.
     let listed = c.in_ok-mend_listing.ensures.listed told cut in
-    in_turn_reported (g.V.Files.state c.args.files.now) (g.V.Files.state c.mend_listed.new.files) _ _
+    in_turn_reported (g.V.Files.state c.args.files.now) (g.V.Files.state c.mend_listed.new.files) _ _ (cut_apart (g.V.Files.state c.args.files.now).files cut)
     (in_turn_then 42 8 50 _ _ _ _ _ _ (c.in_ok-mend_listing.ensures.reported told cut) (c.in_ok-mend_listed.ensures.reported (c.in_ok-mend_listing.ensures.kept.tells ∙ told) listed.0 listed.1) (omega arith))
     none

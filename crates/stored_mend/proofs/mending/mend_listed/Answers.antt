@@ -7,10 +7,9 @@ use Rattle.padded.proofs.Facts.{err_is}
 use Rattle.stored.specs.Mended.{mended_base, mended_catalog}
 use Rattle.stored_mend.specs.Mending.{IsPutRight}
 use Rattle.stored_mend.specs.Stages.{IsCatalogSound}
-use Rattle.stored_mend.proofs.CutCalls.{left_as, left_read, state_as}
+use Rattle.stored_mend.proofs.CutCalls.{failed_as, left_as, left_read, not_failed, space_as, state_as}
 use Rattle.stored_mend.proofs.Framed.{kept_ok, not_ok, then_err}
 use Rattle.stored_mend.proofs.PutRight.{put_right_same}
-use Rattle.stored_mend.proofs.RowsCut.{failed_as, not_failed, space_as}
 use Rattle.stored_mend.proofs.StageCut.{stage_cut}
 use Rattle.stored_mend.specs.Reported.{ReportsInTurn}
 use Rattle.stored_mend.proofs.mending.mend_listed.Goals as goal

@@ -10,4 +10,4 @@ returns-clause-listed g c = λ told cut.
 
 pub returns-clause-reported : goal.returns-clause-reported
 returns-clause-reported g c = λ told cut.
-    reports_then 26 16 42 _ _ _ _ _ _ (c.in_ok-mend_catalog.ensures.reported told cut) (c.in_ok-remove_strays.ensures.reported (c.in_ok-mend_catalog.ensures.kept.tells ∙ told)) (omega arith)
+    reports_then 26 16 42 _ _ _ _ _ _ (c.in_ok-mend_catalog.ensures.reported told cut) (c.in_ok-remove_strays.ensures.reported (c.in_ok-mend_catalog.ensures.kept.tells ∙ told) (c.in_ok-mend_catalog.ensures.listed told cut)) (omega arith)

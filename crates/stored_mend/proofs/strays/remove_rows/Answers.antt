@@ -10,6 +10,7 @@ use Rattle.stored_mend.specs.declared.report.Mended.TheVariants.{Relation}
 use Rattle.stored_mend.proofs.CatalogKept.{slot_is}
 use Rattle.stored_mend.proofs.CatalogRead.{unused_at}
 use Rattle.stored_mend.proofs.OneFile.{removed_changes}
+use Rattle.stored_mend.proofs.ReportNames.{lone_slot}
 use Rattle.stored_mend.proofs.ReportOnce.{reports_nothing}
 use Rattle.stored_mend.proofs.ReportSteps.{seen_gone, seen_there, rows_removed_reports}
 use Rattle.stored_mend.proofs.ListedFiles.{rows_removed, rows_unlisted, rows_used}
@@ -95,13 +96,13 @@ returns-in_err-remove-clause-cut g c = λ told l cuts.
 -- and told
 
 pub returns-in_default-find-clause-reported : goal.returns-in_default-find-clause-reported
-returns-in_default-find-clause-reported g c = λ told. reports_nothing 1 _ _ _ _ c.in_ok-first.ensures.frame.same refl
+returns-in_default-find-clause-reported g c = λ told l. reports_nothing 1 _ _ _ _ c.in_ok-first.ensures.frame.same refl
 
 pub returns-then-first-ne0-clause-reported : goal.returns-then-first-ne0-clause-reported
-returns-then-first-ne0-clause-reported g c = λ told. reports_nothing 1 _ _ _ _ c.in_ok-first.ensures.frame.same refl
+returns-then-first-ne0-clause-reported g c = λ told l. reports_nothing 1 _ _ _ _ c.in_ok-first.ensures.frame.same refl
 
 pub returns-clause-reported : goal.returns-clause-reported
-returns-clause-reported g c = λ told.
+returns-clause-reported g c = λ told l.
     let old = g.V.Files.state c.args.files.now in
     let new = g.V.Files.state c.remove.new.self in
     let same = c.in_ok-first.ensures.frame.same in
@@ -111,7 +112,8 @@ returns-clause-reported g c = λ told.
     let removed = rw same at c.in_ok-remove.ensures.removed in
     let zero : c.in_ok-first.first ≡ 0 = omega (arith, c.if-first-ne0.false) in
     let at : 176 * c.args.slot ≡ 176 * c.from.result = omega (arith, c.from.ensures) in
+    let unused = unused_at (whole_catalog old.files) c.args.slot (ap (slice_index (whole_catalog old.files)) at ∙ sym (c.in_ok-first.ensures.byte told) ∙ zero) in
     rows_removed_reports old new c.args.slot c.requires.slot (removed_changes old new c.in-Some-find.file (rows_file c.args.slot) removed here)
-    (unused_at (whole_catalog old.files) c.args.slot (ap (slice_index (whole_catalog old.files)) at ∙ sym (c.in_ok-first.ensures.byte told) ∙ zero))
+    unused (lone_slot old.files c.args.slot c.requires.slot l unused)
     (seen_there old.files c.in-Some-find.file (rows_file c.args.slot) here) (seen_gone old new c.in-Some-find.file (rows_file c.args.slot) removed here)
     _ _ (c.add.ensures ∙ ap (λ (k : ℕ). with_line c.args.report.now.mended (Relation k)) id)

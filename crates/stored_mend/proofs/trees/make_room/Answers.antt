@@ -1,4 +1,4 @@
-use Rattle.std.proofs.Common.{◌∙◌, arith, ◌≡◌, refl, subst, true, Err, Ok}
+use Rattle.std.proofs.Common.{◌∙◌, arith, refl, subst, Err}
 use Rattle.stored_mend.specs.Trees.{LacksRoom, LosesTrees}
 use Rattle.stored_mend.proofs.Completing.{settles_behind, slot_same, spared_by}
 use Rattle.stored_mend.proofs.Framed.{changes_ok, then_ok, changes_failed, changes_space, not_ok, then_err}
@@ -11,8 +11,7 @@ use Rattle.stored.specs.Mended.{mended_base}
 use Rattle.afl_base.specs.declared.kind.FileError.TheVariants.{Failed}
 use Rattle.padded.proofs.Facts.{err_is}
 use Rattle.stored_mend.specs.Interrupted.{IsCutState}
-use Rattle.stored_mend.proofs.CutCalls.{failed_handed, left_as, space_handed, space_not, state_as}
-use Rattle.stored_mend.proofs.CutTrees.{not_failed, space_no_failure}
+use Rattle.stored_mend.proofs.CutCalls.{failed_handed, left_as, not_failed, space_handed, space_no_failure, space_not, state_as}
 use Rattle.stored_mend.proofs.TreesWhile.{trees_cut, while_complete, while_same}
 use Rattle.stored_mend.proofs.TreeTurns.{may_remove, settled_while}
 use Rattle.space_model.specs.FileNames.{tree_file}
@@ -110,7 +109,7 @@ returns-in_ok-replace_tree-in-Some-clause-trees g c = λ told half may.
     settled_while half mid.files new.files c.args.slot (c.in_ok-replace_tree-in-Some.ensures.settles.settles (kept.tells ∙ told) remove.here remove.trees.sound) remove.others c.live-first_is_live.ensures.places
 
 pub returns-in_ok-replace_tree-in-Some-clause-cut : goal.returns-in_ok-replace_tree-in-Some-clause-cut
-returns-in_ok-replace_tree-in-Some-clause-cut g c = λ told half may cuts failed. not_failed tt _ failed
+returns-in_ok-replace_tree-in-Some-clause-cut g c = λ told half may cuts failed. not_failed _ tt _ failed
 
 pub returns-in-None-clause-trees : goal.returns-in-None-clause-trees
 returns-in-None-clause-trees g c = λ told half may.
@@ -119,7 +118,7 @@ returns-in-None-clause-trees g c = λ told half may.
     (complete.complete told may.here may.trees.sound)
 
 pub returns-in-None-clause-cut : goal.returns-in-None-clause-cut
-returns-in-None-clause-cut g c = λ told half may cuts failed. not_failed tt _ failed
+returns-in-None-clause-cut g c = λ told half may cuts failed. not_failed _ tt _ failed
 
 -- ---- frames
 

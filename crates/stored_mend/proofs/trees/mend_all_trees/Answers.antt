@@ -10,8 +10,7 @@ use Rattle.std.specs.Prelude.{⊤}
 use Rattle.stored.specs.Mended.{mended_base}
 use Rattle.afl_base.specs.declared.kind.FileError.TheVariants.{Failed}
 use Rattle.stored_mend.specs.Interrupted.{IsCutState}
-use Rattle.stored_mend.proofs.CutCalls.{failed_handed, left_as, space_handed, space_not, state_as}
-use Rattle.stored_mend.proofs.CutTrees.{not_failed}
+use Rattle.stored_mend.proofs.CutCalls.{failed_handed, left_as, not_failed, space_handed, space_not, state_as}
 use Rattle.stored_mend.proofs.TreesWhile.{trees_begun}
 use Rattle.stored_mend.proofs.TreeTurns.{but_settled, may_make_room}
 use Rattle.stored_mend.proofs.trees.mend_all_trees.Goals as goal
@@ -102,10 +101,10 @@ pub returns-in_err-waiting-clause-space : goal.returns-in_err-waiting-clause-spa
 returns-in_err-waiting-clause-space g c = λ told loaded half whole. space_not _ c.from_residual.result c.from_residual.ensures.1
 
 pub returns-then-waiting-eq0-clause-cut : goal.returns-then-waiting-eq0-clause-cut
-returns-then-waiting-eq0-clause-cut g c = λ told loaded half whole cuts failed. not_failed tt _ failed
+returns-then-waiting-eq0-clause-cut g c = λ told loaded half whole cuts failed. not_failed _ tt _ failed
 
 pub returns-clause-cut : goal.returns-clause-cut
-returns-clause-cut g c = λ told loaded half whole cuts failed. not_failed tt _ failed
+returns-clause-cut g c = λ told loaded half whole cuts failed. not_failed _ tt _ failed
 
 pub returns-in_err-make_room-clause-cut : goal.returns-in_err-make_room-clause-cut
 returns-in_err-make_room-clause-cut g c = λ told loaded half whole cuts failed.

@@ -1,4 +1,4 @@
-use Rattle.std.proofs.Common.{rules, ◌≡◌, ◌∙◌, sym, subst, ℕ, length}
+use Rattle.std.proofs.Common.{rules, ◌≡◌, ◌∙◌, sym, subst, ℕ, length, refl, Err}
 use Rattle.afl_base.proofs.FileLaws.{named_live}
 use Rattle.afl_base.specs.Files.{Keeps, State, bytes_at, file_at, size_at}
 use Rattle.afl_base.specs.KeyColumn.{key_of}
@@ -10,9 +10,9 @@ use Rattle.stored_mend.proofs.ReportTrees.{no_tree_named}
 use Rattle.std.specs.Prelude.{⊤, Bool}
 use Rattle.std.proofs.lemmas.List.FromFn.{length-map-range_with_len}
 use Rattle.afl_base.proofs.CutLaws.{either_as, mends_as}
-use Rattle.afl_base.specs.CutFiles.{MendsToState}
-use Rattle.stored_mend.specs.CutTrees.{MayMendTree, StaysWithout}
-use Rattle.stored_mend.proofs.CutTrees.{built_mends, failed_as, key_mends, room_mends, space_as, stays_without}
+use Rattle.stored_mend.specs.CutTrees.{StaysWithout}
+use Rattle.stored_mend.proofs.CutTrees.{built_mends, key_mends, room_mends, stays_without}
+use Rattle.stored_mend.proofs.CutCalls.{failed_as, space_as}
 use Rattle.stored_mend.proofs.trees.mend_tree_of.Goals as goal
 
 pub build_tree-requires-clause-keys : goal.build_tree-requires-clause-keys
@@ -106,8 +106,8 @@ returns-in-Err-clause-waits g c = λ told.
     let keys = first_keys (key_of old c.args.keys.now.column) c.args.keys.now.slots in
     let doubles : (file_at old.files c.in-Some.tree).kind ≡ Doubling = search rules in
     let kept = rw c.in_ok-whole.ensures.frame.same at (c.in_ok-added.ensures.kept c.if-added.false) in
-    space_as ⊤ Bool c.in-Err.stop (Keeps mid new) (StaysWithout old.files new.files c.args.name keys)
-    (λ keeps. stays_without old mid c.in-Some.tree c.args.name c.in-Some.ensures.found c.in-Some.ensures.only new keys doubles told (c.in_ok-whole.ensures.no_tree told c.if-whole.false) kept keeps)
+    space_as ⊤ Bool c.in-Err.stop (Err c.in-Err.stop) refl (λ need. Keeps mid new) (λ need. StaysWithout old.files new.files c.args.name keys)
+    (λ need keeps. stays_without old mid c.in-Some.tree c.args.name c.in-Some.ensures.found c.in-Some.ensures.only new keys doubles told (c.in_ok-whole.ensures.no_tree told c.if-whole.false) kept keeps)
     c.in-Err.ensures.kept
 
 pub returns-in-Err-clause-cut : goal.returns-in-Err-clause-cut
@@ -126,11 +126,10 @@ returns-in-Err-clause-cut g c = λ cuts told.
     let kept = rw c.in_ok-whole.ensures.frame.same at (c.in_ok-added.ensures.kept c.if-added.false) in
     let live = named_live old.files tree name found in
     let spares = (becomes_at_most old mid tree (size_at old.files tree) (bytes_at old.files tree) name found doubles kept).spares in
-    failed_as ⊤ Bool c.in-Err.stop (MendsToState g.V.Files.mends new.store (λ after. MayMendTree old after name keys))
-    (λ failed. either_as mid (c.in-Err.ensures.cut cuts (kept.tells ∙ told) failed)
+    λ failed. either_as mid (c.in-Err.ensures.cut cuts (kept.tells ∙ told) (failed_as ⊤ Bool c.in-Err.stop (Err c.in-Err.stop) refl failed))
     (room_mends old mid tree name found only keys doubles told kept)
     (λ after built. built_mends old after tree name found only keys told
-    (built_behind old mid after name (first_keys (key_of mid column) slots) keys spares (keys_prepared old mid tree column slots live kept) built)))
+    (built_behind old mid after name (first_keys (key_of mid column) slots) keys spares (keys_prepared old mid tree column slots live kept) built))
 
 -- what is told
 

@@ -1,4 +1,4 @@
-use Rattle.std.proofs.Common.{◌∙◌, sym, ◌≡◌, refl, subst, Err, Ok}
+use Rattle.std.proofs.Common.{◌∙◌, sym, ◌≡◌, refl, subst, Err}
 use Rattle.padded.proofs.Facts.{err_is}
 use Rattle.stored_mend.specs.Trees.{LacksRoom, LosesTrees}
 use Rattle.stored_mend.proofs.Completing.{lost_settles}
@@ -10,8 +10,7 @@ use Rattle.stored_mend.proofs.ReportTrees.{lost_reports, lost_tree, seen_none}
 use Rattle.std.specs.Prelude.{⊤}
 use Rattle.stored.specs.Mended.{mended_base}
 use Rattle.stored_mend.specs.Interrupted.{IsCutState}
-use Rattle.stored_mend.proofs.CutCalls.{failed_handed, left_as, space_handed, state_as}
-use Rattle.stored_mend.proofs.CutTrees.{not_failed}
+use Rattle.stored_mend.proofs.CutCalls.{failed_handed, left_as, not_failed, space_handed, state_as}
 use Rattle.stored_mend.proofs.TreeTurns.{base_lost, treeless_cut}
 use Rattle.stored_mend.proofs.trees.replace_tree.Goals as goal
 
@@ -41,10 +40,10 @@ returns-in_err-mend_index-in-Ok-false-clause-frame g c =
     (err_is c.from_residual.result c.in_err-mend_index-in-Ok-false.field-0.0 c.from_residual.ensures.1) a.store a.lent a.later a.cause.later c.in_err-mend_index-in-Ok-false.ensures.frame
 
 pub returns-in-Ok-true-clause-cut : goal.returns-in-Ok-true-clause-cut
-returns-in-Ok-true-clause-cut g c = λ told half may cuts failed. not_failed tt _ failed
+returns-in-Ok-true-clause-cut g c = λ told half may cuts failed. not_failed _ tt _ failed
 
 pub returns-in_ok-mend_index-in-Ok-false-clause-cut : goal.returns-in_ok-mend_index-in-Ok-false-clause-cut
-returns-in_ok-mend_index-in-Ok-false-clause-cut g c = λ told half may cuts failed. not_failed tt _ failed
+returns-in_ok-mend_index-in-Ok-false-clause-cut g c = λ told half may cuts failed. not_failed _ tt _ failed
 
 pub returns-in-Err-clause-cut : goal.returns-in-Err-clause-cut
 returns-in-Err-clause-cut g c = λ told half may cuts failed. c.in-Err.ensures.cut told half may cuts
