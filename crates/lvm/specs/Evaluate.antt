@@ -1,5 +1,5 @@
 -- What the steps of a condition make of a tuple.
-use Rattle.std.specs.Prelude.{ℕ, ℤ, Bool, true, false, not, ◌&&◌, ◌||◌, List, [], ◌∷◌, Option, Some, None, slice_get}
+use Rattle.std.specs.Prelude.{◌≡◌, ℕ, ℤ, Bool, true, false, not, ◌&&◌, ◌||◌, List, [], ◌∷◌, Option, Some, None, drop, slice_get}
 use Rattle.std.specs.Ordering.{int_cmp, nat_cmp}
 use Rattle.std.specs.Cmp.Lexicographic.{slice_cmp}
 use Rattle.db_model.specs.declared.commands.Compare.{Compare}
@@ -66,10 +66,21 @@ left_by step.Or s = rest (rest s)
 abbrev pub stepped : Instruction → List Value → List Item → List Item
 stepped i values s = result_of i values s ∷ left_by i s
 
+-- NOT, AND and OR
+abbrev pub is_join : Instruction → Bool
+is_join step.Not = true
+is_join step.And = true
+is_join step.Or = true
+is_join _ = false
+
 -- the stack after some steps
 abbrev pub evaluated : List Instruction → List Value → List Item → List Item
 evaluated [] values s = s
 evaluated (i ∷ is) values s = evaluated is values (stepped i values s)
+
+-- the steps from one place to another put an item on the stack, and change nothing below
+abbrev pub Puts : List Instruction → List Value → ℕ → ℕ → Item → Type 0
+Puts is values from next item = (s : List Item) → evaluated (drop from is) values s ≡ evaluated (drop next is) values (item ∷ s)
 
 -- where there was no step, each tuple is selected
 abbrev pub verdict : List Item → Bool

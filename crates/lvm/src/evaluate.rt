@@ -2,12 +2,14 @@
 
 #![tactic(auto)]
 
-ghost use Rattle.std.specs.Prelude.{◌≡◌, ◌+◌, ◌<◌, ◌≤◌, IfSome, IsTrue, List, [], ◌∷◌, length};
+ghost use Rattle.std.specs.Prelude.{◌≡◌, ◌+◌, ◌<◌, ◌≤◌, IfSome, IsTrue, List, [], ◌∷◌, length, map};
+ghost use Rattle.db_model.specs.declared.values.Value.{Value};
 ghost use Rattle.lvm.specs.Evaluate as spec;
 ghost use Rattle.lvm.specs.Evaluate.{Truth};
 ghost use Rattle.lvm.specs.Lent.{items_of};
 ghost use Rattle.lvm.specs.declared.instruction.Instruction.TheVariants.{And};
 
+use crate::comparing::compared_from;
 use crate::instruction::Instruction;
 use crate::item::{Item, calculation, comparison, is_true};
 use crate::stack::Stack;
@@ -19,7 +21,10 @@ pub fn evaluated<V: Values>(instructions: &[Instruction], values: &V) -> bool
     requires readable { V.readable values.now }
     ensures { result ≡ spec.verdict (spec.evaluated instructions.now (V.values values.now) []) }
 {
-    match evaluated_at_once(instructions, values) {
+    if let Some(truth) = evaluated_at_once(instructions, values) {
+        return truth;
+    }
+    match evaluated_by_comparisons(instructions, values) {
         Some(truth) => truth,
         None => evaluated_by_steps(instructions, values),
     }
@@ -88,6 +93,60 @@ fn compared<V: Values>(
         }
         _ => None,
     }
+}
+
+// The same by a stack of truth values, where each comparison can be made without one.
+fn evaluated_by_comparisons<V: Values>(instructions: &[Instruction], values: &V) -> Option<bool>
+    requires few { length instructions.now ≤ 32 }
+    requires readable { V.readable values.now }
+    ensures { IfSome result (λ truth.
+        truth ≡ spec.verdict (spec.evaluated instructions.now (V.values values.now) [])) }
+{
+    let mut truths = Stack::new();
+    let mut last = None;
+    let mut at = 0;
+    while at < instructions.len() {
+        if is_join(&instructions[at]) {
+            join(&instructions[at], &mut truths);
+            at += 1;
+        } else {
+            let found = compared_from(instructions, at, values, &mut last)?;
+            truths.push(found.truth);
+            at = found.next;
+        }
+    }
+    Some(truths.pop_or(true))
+}
+
+fn is_join(instruction: &Instruction) -> bool
+    ensures { result ≡ spec.is_join instruction.now }
+{
+    matches!(
+        instruction,
+        Instruction::Not | Instruction::And | Instruction::Or
+    )
+}
+
+// Carries out a NOT, AND or OR of truth values.
+fn join(instruction: &Instruction, truths: &mut Stack<bool, 32>)
+    requires join { IsTrue (spec.is_join instruction.now) }
+    requires room { length truths.old < 32 }
+    ensures value { (values : List Value) → map Truth truths.new
+        ≡ spec.stepped instruction.now values (map Truth truths.old) }
+    ensures room { length truths.new ≤ length truths.old + 1 }
+{
+    let truth = match instruction {
+        Instruction::And => {
+            let (a, b) = truths.pop_two_or(false);
+            a && b
+        }
+        Instruction::Or => {
+            let (a, b) = truths.pop_two_or(false);
+            a || b
+        }
+        _ => !truths.pop_or(false),
+    };
+    truths.push(truth);
 }
 
 // The same by a stack.

@@ -3,6 +3,7 @@
 #![tactic(auto)]
 
 ghost use Rattle.std.specs.Prelude.{◌≡◌, slice_get};
+ghost use Rattle.std.specs.Ordering.{int_cmp};
 ghost use Rattle.db_model.specs.Item as item;
 ghost use Rattle.lvm.specs.Evaluate as spec;
 ghost use Rattle.lvm.specs.Lent.{item_of};
@@ -57,9 +58,23 @@ pub fn comparison(how: Compare, a: Item<'_>, b: Item<'_>) -> bool
     ensures { result ≡ spec.item_comparison how (item_of a.entry) (item_of b.entry) }
 {
     match (a, b) {
-        (Item::Number(x), Item::Number(y)) => satisfies(how, x.cmp(&y)),
+        (Item::Number(x), Item::Number(y)) => numbers_compare(how, x, y),
         (Item::Text(x), Item::Text(y)) => satisfies(how, x.cmp(y)),
         _ => false,
+    }
+}
+
+/// Whether two numbers compare so.
+pub fn numbers_compare(how: Compare, x: i64, y: i64) -> bool
+    ensures { result ≡ item.satisfies how (int_cmp x y) }
+{
+    match how {
+        Compare::Eq => x.cmp(&y).is_eq(),
+        Compare::Ne => x.cmp(&y).is_ne(),
+        Compare::Lt => x.cmp(&y).is_lt(),
+        Compare::Le => x.cmp(&y).is_le(),
+        Compare::Gt => x.cmp(&y).is_gt(),
+        Compare::Ge => x.cmp(&y).is_ge(),
     }
 }
 

@@ -3,6 +3,7 @@
 
 mod arithmetic;
 mod code;
+mod comparing;
 mod evaluate;
 mod instruction;
 mod item;
