@@ -2,15 +2,27 @@
 
 #![tactic(auto)]
 
+ghost use Rattle.std.specs.Prelude.{◌≡◌, ◌≤◌, length};
+ghost use Rattle.db_model.specs.Row.{fields_length, tuple_of};
+ghost use Rattle.cursor.specs.Remaining.{passes_code};
+
 use db_model::Attribute;
-use lvm::{Item, Values};
+use lvm::{Code, Item, Values};
 use tuple_file::{Field, field_at};
 
 /// The bytes of a row of these attributes.
 #[derive(Drop)]
-pub(crate) struct Fields<'a> {
-    pub(crate) attributes: &'a [Attribute],
-    pub(crate) row: &'a [u8],
+struct Fields<'a> {
+    attributes: &'a [Attribute],
+    row: &'a [u8],
+}
+
+/// Whether a condition selects the tuple of a row. Of the row no more is decoded than it names.
+pub fn selects_row<'a>(code: &Code, attributes: &'a [Attribute], row: &'a [u8]) -> bool
+    requires { fields_length attributes.now ≤ length row.now }
+    ensures { result ≡ passes_code code.now (tuple_of attributes.now row.now) }
+{
+    code.eval_on(&Fields { attributes, row })
 }
 
 impl<'b> Values for Fields<'b> {

@@ -11,6 +11,7 @@ mod select;
 mod walk;
 
 pub use block::Block;
+pub use fields::selects_row;
 pub use join::JoinCursor;
 pub use laws::{
     nothing_is_left_of_no_slots, rows_that_come_change_no_answer, rows_that_come_change_no_pair,

@@ -10,7 +10,7 @@ ghost use Rattle.db_model.specs.Answers.{selected};
 ghost use Rattle.db_model.specs.Cond.{Cond};
 ghost use Rattle.db_model.specs.Cost.{begin_cost, chosen_cost};
 ghost use Rattle.db_model.specs.Plan.{plan, ranges_of};
-ghost use Rattle.db_model.specs.Row.{AllSuit, Row};
+ghost use Rattle.db_model.specs.Row.{AllSuit, Row, row_length, tuple_of};
 ghost use Rattle.index_set.specs.Complete.{AreIndexesOf, AreReadable};
 ghost use Rattle.index_set.specs.Plans.{kinds};
 ghost use Rattle.index_set.specs.Walks.{Advances, Fits, Waits, cost_ahead, walk_of};
@@ -18,8 +18,8 @@ ghost use Rattle.lvm.specs.Code.{IsCodeOf};
 ghost use Rattle.tuple_file.specs.Tuples.{HoldsRows, rows, slots};
 ghost use Rattle.cursor.specs.Remaining.{AreOnNumbers, BeginsBy, IsBegun, MayRead, Yields, next_cost, remaining, slots_to_answer};
 
-use crate::fields::Fields;
-use crate::walk::{Test, next_row};
+use crate::fields::selects_row;
+use crate::walk::{Test, next_bytes, next_row};
 use afl_base::{Failed, Files, SlotNo};
 use db_model::{Attribute, Range, Tuple};
 use index_set::{Candidates, HashTables, Indexes};
@@ -40,7 +40,7 @@ impl Test for Code {
     ghost passes = { passes_code };
 
     fn holds<'a>(&self, attributes: &'a [Attribute], row: &'a [u8]) -> bool {
-        self.eval_on(&Fields { attributes, row })
+        selects_row(self, attributes, row)
     }
 }
 
@@ -160,6 +160,54 @@ impl SelectCursor {
             &mut candidates,
             &self.code,
             into,
+        )?;
+        self.candidates = candidates;
+        Ok(found)
+    }
+
+    /// The same, where the bytes of the row stand in `row`, and its tuple is not decoded.
+    pub fn next_bytes<V: Files>(
+        &mut self,
+        files: &mut V,
+        tables: &HashTables,
+        row: &mut [u8],
+    ) -> Result<Option<SlotNo>, Failed>
+        requires may_read { MayRead (V.state files.old) self.old.tuples self.old.candidates }
+        requires size { 0 < self.old.candidates.slots
+            → length row.old ≡ row_length self.old.tuples.schema.attributes }
+        ensures yields { let state = V.state files.old in let all = rows state.files self.old.tuples in
+            let tuple = tuple_of self.old.tuples.schema.attributes row.new in
+            IsTrue state.tells → IfOk result (λ found. Fits self.old.candidates state tables.now all
+            → Yields found tuple self.old self.new state tables.now all (V.reads files.old) (V.reads files.new)) }
+        ensures advances { IfOk result (λ found. Advances found self.old.candidates self.new.candidates) }
+        ensures ended { IfOk result (λ found.
+            IfNone found (self.new.candidates.from ≡ self.new.candidates.slots)) }
+        ensures stands { self.new ≡ record self.old { candidates = self.new.candidates } }
+        ensures unmoved { OnErr result (self.new ≡ self.old) }
+        ensures suits { let attributes = self.old.tuples.schema.attributes in
+            IfOk result (λ found. IfSome found (λ _. AllSuit attributes (tuple_of attributes row.new))) }
+        ensures whole { IfOk result (λ found. IfSome found (λ _.
+            length row.new ≡ row_length self.old.tuples.schema.attributes)) }
+        ensures size { length row.new ≡ length row.old }
+        ensures may_read { MayRead (V.state files.old) self.new.tuples self.new.candidates }
+        ensures reads_err { let state = V.state files.old in
+            let all = rows state.files self.old.tuples in
+            IsTrue state.tells → OnErr result (Fits self.old.candidates state tables.now all
+            → V.reads files.new ≤ V.reads files.old + cost_ahead self.old.candidates all) }
+        ensures reads_failed { let state = V.state files.old in
+            let all = rows state.files self.old.tuples in
+            IsTrue state.tells → OnErr result (Fits self.old.candidates state tables.now all
+            → V.reads files.new ≤ V.reads files.old + next_cost self.old all) }
+        ensures frame { OnlyReads V.state V.lent V.reads V.faults files.old files.new result }
+    {
+        let mut candidates = self.candidates;
+        let found = next_bytes(
+            files,
+            tables,
+            &self.tuples,
+            &mut candidates,
+            &self.code,
+            row,
         )?;
         self.candidates = candidates;
         Ok(found)

@@ -1,12 +1,12 @@
-ghost use Rattle.std.specs.Prelude.{◌≡◌, ℕ, ℤ, List, [], ◌∷◌, IfOk, IsTrue, OnOk, None};
-ghost use Rattle.db_model.specs.Row.{AllSuit, suits};
+ghost use Rattle.std.specs.Prelude.{◌≡◌, ◌≤◌, ℕ, ℤ, List, [], ◌∷◌, IfOk, IsTrue, OnOk, None, length};
+ghost use Rattle.db_model.specs.Row.{AllSuit, fields_length, suits};
 ghost use Rattle.tuple_file.specs.Tuples.{HoldsRows};
 
 use afl_base::{FileError, FileId, Files, Kind, SlotNo};
 use afl_sim::PlainFiles;
 use db_model::{Attribute, Attributes, Domain, Ident, Schema, Text, Tuple, Value, row_length};
 use file_steps::{appended, new_file, read_from, size_of};
-use tuple_file::Tuples;
+use tuple_file::{Tuples, get_tuple};
 
 // Whether the file has rows of the relation, each as it may be.
 fn holds<V: Files>(tuples: &Tuples, files: &mut V) -> Result<bool, FileError>
@@ -106,12 +106,24 @@ fn rewrite<V: Files>(tuples: &Tuples, files: &mut V, key: i64) -> Result<(), Fil
     if !holds(tuples, files)? {
         return Err(FileError::Failed);
     }
-    tuples.rewrite(files, |tuple| {
-        tuple
-            .as_slice()
-            .iter()
-            .any(|value| *value == Value::Number(key))
-    })
+    tuples.rewrite(
+        files,
+        |row: &[u8]|
+            requires { fields_length tuples.now.schema.attributes ≤ length row.now }
+        { has_number(&tuples.schema.attributes, row, key) },
+    )
+}
+
+// Whether a row has this number.
+fn has_number(attributes: &Attributes, row: &[u8], key: i64) -> bool
+    requires { fields_length attributes.now ≤ length row.now }
+{
+    let mut tuple = Tuple::new();
+    get_tuple(attributes, row, &mut tuple);
+    tuple
+        .as_slice()
+        .iter()
+        .any(|value| *value == Value::Number(key))
 }
 
 fn pack<V: Files>(tuples: &Tuples, files: &mut V) -> Result<(), FileError>

@@ -4,13 +4,15 @@
 
 ghost use Rattle.std.specs.Prelude.{◌≡◌, ◌<◌, ◌≤◌, ◌||◌, ℕ, List, false, length, IsTrue};
 ghost use Rattle.db_model.specs.declared.values.Value.{Value as AnyValue};
+ghost use Rattle.db_model.specs.Row.{fields_length, tuple_of};
 ghost use Rattle.aggregate.specs.Limits.{Suits};
 ghost use Rattle.session_model.specs.View.{value_at};
 ghost use Rattle.session_plans.specs.Aggregates.{answers, medians};
 ghost use Rattle.session_queries.specs.Folded.{AreClosed, AreDone, AreFolded, EndsPass, HaveAggs, IsNew, TakesValue, item_at, tally_at};
 
 use crate::tally::{Tally, end_pass, new_tally, push};
-use db_model::{Agg, Few, Tuple, Value};
+use db_model::{Agg, Attribute, Few, Value};
+use tuple_file::value_at;
 
 /// A tally for each aggregate, before its first pass.
 pub fn new_tallies(items: &[(Agg, u8)]) -> [Tally; 8]
@@ -25,27 +27,29 @@ pub fn new_tallies(items: &[(Agg, u8)]) -> [Tally; 8]
     tallies
 }
 
-/// Shows each tally the value of its attribute in a tuple.
-pub fn push_all(items: &[(Agg, u8)], tuple: &Tuple, tallies: &mut [Tally])
+/// Shows each tally the value of its attribute in a row. No other is decoded.
+pub fn push_all(items: &[(Agg, u8)], attributes: &[Attribute], row: &[u8], tallies: &mut [Tally])
+    requires fields { fields_length attributes.now ≤ length row.now }
     requires many { length items.now ≤ length tallies.old }
-    requires suits { (i : ℕ) → i < length items.now
-        → Suits (tally_at tallies.old i).fold.agg (value_at tuple.now (item_at items.now i).1) }
+    requires suits { let tuple = tuple_of attributes.now row.now in (i : ℕ) → i < length items.now
+        → Suits (tally_at tallies.old i).fold.agg (value_at tuple (item_at items.now i).1) }
     requires few { (i : ℕ) → i < length items.now
         → IsTrue (tally_at tallies.old i).is_open → (tally_at tallies.old i).fold.pushed < 32768 }
     ensures many { length tallies.new ≡ length tallies.old }
-    ensures takes { (i : ℕ) → i < length items.now → TakesValue (value_at tuple.now (item_at items.now i).1)
-        (tally_at tallies.old i) (tally_at tallies.new i) }
+    ensures takes { let tuple = tuple_of attributes.now row.now in (i : ℕ) → i < length items.now
+        → TakesValue (value_at tuple (item_at items.now i).1) (tally_at tallies.old i) (tally_at tallies.new i) }
 {
     for i in 0..items.len() {
-        push(&mut tallies[i], &value_at(tuple, items[i].1));
+        push(&mut tallies[i], &value_or_zero(attributes, row, items[i].1));
     }
 }
 
-fn value_at(tuple: &Tuple, place: u8) -> Value
-    ensures { result ≡ value_at tuple.now place }
+fn value_or_zero(attributes: &[Attribute], row: &[u8], place: u8) -> Value
+    requires { fields_length attributes.now ≤ length row.now }
+    ensures { result ≡ value_at (tuple_of attributes.now row.now) place }
 {
-    match tuple.as_slice().get(place as usize) {
-        Some(value) => *value,
+    match value_at(attributes, row, place) {
+        Some(value) => value,
         None => Value::Number(0),
     }
 }

@@ -15,8 +15,9 @@ use crate::folding::{end_all, push_all};
 use crate::tally::Tally;
 use afl_base::{Failed, Files};
 use cursor::SelectCursor;
-use db_model::{Agg, Tuple};
+use db_model::Agg;
 use index_set::{Candidates, HashTables};
+use tuple_file::ROW_SIZE;
 
 /// Passes over the rows that a cursor has still to answer, until no tally is open: 9 times at
 /// most, and more than once for a median alone.
@@ -92,10 +93,16 @@ fn fold_rows<V: Files>(
         → V.reads files.new ≤ V.reads files.old + cost_ahead cursor.old.candidates all }
     ensures frame { OnlyReads V.state V.lent V.reads V.faults files.old files.new result }
 {
-    let mut tuple = Tuple::new();
+    let mut bytes = [0; ROW_SIZE];
+    let row = &mut bytes[..cursor.tuples.length()];
     'rows: loop {
-        match cursor.next(files, tables, &mut tuple) {
-            Ok(Some(_)) => push_all(items, &tuple, tallies),
+        match cursor.next_bytes(files, tables, row) {
+            Ok(Some(_)) => push_all(
+                items,
+                cursor.tuples.schema.attributes.as_slice(),
+                row,
+                tallies,
+            ),
             Ok(None) => return Ok(()),
             Err(_) => return Err(Failed),
         }

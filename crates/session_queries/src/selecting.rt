@@ -2,13 +2,14 @@
 
 #![tactic(auto)]
 
-ghost use Rattle.std.specs.Prelude.{◌≡◌, ◌+◌, ◌<◌, ◌≤◌, List, Ok, Err, Option, IfErr, IfOk, IsTrue, OnErr, OnOk, map};
+ghost use Rattle.std.specs.Prelude.{◌≡◌, ◌+◌, ◌<◌, ◌≤◌, List, Ok, Err, Option, IfErr, IfOk, IsTrue, OnErr, OnOk, length, map};
 ghost use Rattle.afl_base.specs.Files.{Table};
 ghost use Rattle.db_model.specs.declared.commands.Query.TheVariants as query;
 ghost use Rattle.db_model.specs.Answers.{selected};
 ghost use Rattle.db_model.specs.Cond.{Cond, IsCondition, condition_of};
 ghost use Rattle.db_model.specs.Cost.{chosen_cost, query_cost};
 ghost use Rattle.db_model.specs.Plan.{ranges_of};
+ghost use Rattle.db_model.specs.Row.{row_length};
 ghost use Rattle.db_model.specs.Step.{Rows, answer_of};
 ghost use Rattle.cursor.specs.Remaining.{MayRead};
 ghost use Rattle.index_set.specs.Plans.{kinds};
@@ -30,6 +31,7 @@ use index_set::HashTables;
 use reply_text::{write_projected, write_rows};
 use session_model::{Held, Outcome};
 use session_plans::{SelectPlan, plan_select};
+use tuple_file::{ROW_SIZE, get_tuple};
 
 /// A relation, and what a SELECT asks of it.
 #[derive(Drop)]
@@ -123,9 +125,11 @@ fn select_rows<V: Files, K: Sink>(
     ensures frame { Recites V.Files K.Sink files.old files.new out.old out.new result }
 {
     let mut count = 0;
+    let mut bytes = [0; ROW_SIZE];
+    let row = &mut bytes[..cursor.tuples.length()];
     let mut tuple = Tuple::new();
     'rows: loop {
-        match select_next(files, tables, cursor, places, &mut tuple, out) {
+        match select_next(files, tables, cursor, places, row, &mut tuple, out) {
             Ok(found) => {
                 if !found {
                     break;
@@ -141,17 +145,20 @@ fn select_rows<V: Files, K: Sink>(
     }
 }
 
-// Writes the next row, and answers false exactly where there is none. Its tuple stands in `tuple`, which is
-// kept from row to row.
+// Writes the next row, and answers false exactly where there is none. Its bytes stand in `row` and its
+// tuple in `tuple`, which are kept from row to row.
 fn select_next<V: Files, K: Sink>(
     files: &mut V,
     tables: &HashTables,
     cursor: &mut SelectCursor,
     places: &Few<u8, 8>,
+    row: &mut [u8],
     tuple: &mut Tuple,
     out: &mut K,
 ) -> Result<bool, Fault>
     requires may_read { MayRead (V.state files.old) cursor.old.tuples cursor.old.candidates }
+    requires size { 0 < cursor.old.candidates.slots
+        → length row.old ≡ row_length cursor.old.tuples.schema.attributes }
     ensures wrote { let state = V.state files.old in let all = rows state.files cursor.old.tuples in
         IsTrue state.tells → Fits cursor.old.candidates state tables.now all
         → WroteNext result (rows_left places.now cursor.old all) (rows_left places.now cursor.new all)
@@ -161,6 +168,7 @@ fn select_next<V: Files, K: Sink>(
         → Fits cursor.new.candidates state tables.now all) }
     ensures forward { IfOk result (λ found. IsTrue found
         → cursor.old.candidates.from < cursor.new.candidates.from) }
+    ensures size { length row.new ≡ length row.old }
     ensures tuples { cursor.new.tuples ≡ cursor.old.tuples }
     ensures slots { cursor.new.candidates.slots ≡ cursor.old.candidates.slots }
     ensures may_read { MayRead (V.state files.old) cursor.new.tuples cursor.new.candidates }
@@ -174,8 +182,8 @@ fn select_next<V: Files, K: Sink>(
         → V.reads files.new ≤ V.reads files.old + cost_ahead cursor.old.candidates all) }
     ensures frame { Recites V.Files K.Sink files.old files.new out.old out.new result }
 {
-    match cursor.next(files, tables, tuple) {
-        Ok(Some(_)) => {}
+    match cursor.next_bytes(files, tables, row) {
+        Ok(Some(_)) => get_tuple(&cursor.tuples.schema.attributes, row, tuple),
         Ok(None) => return Ok(false),
         Err(_) => return Err(Fault::Flash),
     }

@@ -12,9 +12,10 @@ ghost use Rattle.afl_base.specs.Fit.{fit};
 ghost use Rattle.afl_base.specs.Frames.{Prepares};
 ghost use Rattle.afl_base.specs.Sparing.{SparesPages, SparesWhere, WantsNothing};
 ghost use Rattle.db_model.specs.Cond.{Cond};
+ghost use Rattle.db_model.specs.Row.{fields_length, tuple_of};
 ghost use Rattle.db_model.specs.Step.{removed_row};
 ghost use Rattle.lvm.specs.Code.{IsCodeOf};
-ghost use Rattle.lvm.specs.Evaluate.{evaluated, verdict};
+ghost use Rattle.cursor.specs.Remaining.{passes_code};
 ghost use Rattle.tuple_file.specs.Tuples.{HoldsRows, rows, slots as slots_of};
 ghost use Rattle.session_rows.specs.Changes.{ReplacesRows};
 ghost use Rattle.session_rows.specs.CutRows.{MayMarkRows, MayRemove};
@@ -23,7 +24,8 @@ ghost use Rattle.session_rows.specs.Wanted.{WantsRemoval};
 
 use crate::selecting::Selected;
 use afl_base::{Failed, FileError, Files, SlotNo};
-use db_model::{Few, Tuple};
+use cursor::selects_row;
+use db_model::Few;
 use lvm::Code;
 use tuple_file::Tuples;
 
@@ -153,9 +155,11 @@ fn rewrite_rows<V: Files>(files: &mut V, tuples: &Tuples, code: &Code) -> Result
 {
     tuples.rewrite(
         files,
-        |tuple: &Tuple|
-            ensures { result ≡ verdict (evaluated code.entry.now tuple.now []) }
-        { code.eval(tuple) },
+        |row: &[u8]|
+            requires { fields_length tuples.now.schema.attributes ≤ length row.now }
+            ensures { let attributes = tuples.entry.now.schema.attributes in
+                result ≡ passes_code code.entry.now (tuple_of attributes row.now) }
+        { selects_row(code, tuples.schema.attributes.as_slice(), row) },
     )?;
     Ok(())
 }

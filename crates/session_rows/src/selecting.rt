@@ -11,8 +11,9 @@ ghost use Rattle.session_rows.specs.Marking.{AreBelow, IsMarkedFront, IsSelected
 
 use afl_base::{Failed, Files, SlotNo};
 use cursor::SelectCursor;
-use db_model::{Few, Tuple};
+use db_model::Few;
 use index_set::HashTables;
+use tuple_file::ROW_SIZE;
 
 /// How many slots are selected, and the first 29 of them.
 #[derive(Drop)]
@@ -59,9 +60,10 @@ pub(crate) fn select_slots<V: Files>(
         count: 0,
         first: Few::new(),
     };
-    let mut tuple = Tuple::new();
+    let mut bytes = [0; ROW_SIZE];
+    let row = &mut bytes[..cursor.tuples.length()];
     'slots: loop {
-        match cursor.next(files, tables, &mut tuple)? {
+        match cursor.next_bytes(files, tables, row)? {
             Some(slot) => selected.add(slot),
             None => break,
         }

@@ -5,7 +5,7 @@ use Rattle.afl_base.specs.Fields.{put_at}
 use Rattle.afl_base.specs.Files.{Becomes, IsLive, State, Table, bytes_at, draft_in, file_at, size_at}
 use Rattle.db_model.specs.declared.schemas.Attribute.{Attribute}
 use Rattle.db_model.specs.declared.values.Value.{Value}
-use Rattle.db_model.specs.Row.{Row, fields_length, row_at, row_bytes, row_length, rows_bytes, rows_of, slots_in_bytes}
+use Rattle.db_model.specs.Row.{Row, fields_length, row_at, row_bytes, row_length, rows_bytes, rows_of, slots_in_bytes, tuple_of}
 use Rattle.db_model.specs.Step.{slots_limit}
 use Rattle.tuple_file.specs.declared.tuples.Tuples.{Tuples}
 
@@ -79,6 +79,10 @@ pub record AreRows (version : ℕ) (attributes : List Attribute) (bytes : List �
 -- nothing is asked about a removed row
 abbrev pub IsAnswered : (List Value → Bool → Type 0) → Row → Row → Type 0
 IsAnswered answers old new = MatchBool old.live ((removed : Bool) × answers old.tuple removed × (new ≡ record old { live = not removed })) (new ≡ old)
+
+-- an answer about a tuple is one about bytes that are read as it
+abbrev pub OfBytes : List Attribute → (List ℕ → Bool → Type 0) → List Value → Bool → Type 0
+OfBytes attributes answers tuple answer = (bytes : List ℕ) × (tuple_of attributes bytes ≡ tuple) × answers bytes answer
 
 -- so is each row at its place, and no slot comes or goes
 abbrev pub AreAnswered : (List Value → Bool → Type 0) → List Row → List Row → Type 0

@@ -13,33 +13,35 @@ ghost use Rattle.db_model.specs.Row.{AllRowsSuit, AllSuit, Row, row_bytes, row_l
 ghost use Rattle.tuple_file.specs.CutRows.{HasWholeRows};
 ghost use Rattle.tuple_file.specs.Drafts.{HasSlot, IsZeroDraft, PutsRow};
 ghost use Rattle.tuple_file.specs.Gathered.{IsFree, TakesRows, end_of_waiting, gathered};
-ghost use Rattle.tuple_file.specs.Tuples.{AreAnswered, HoldsRows, IsAnswered, IsLiveTuple, IsRowFile, OnlyDraftChanges, OnlyRowsChange, live_rows, row, rows, slots};
+ghost use Rattle.tuple_file.specs.Tuples.{AreAnswered, HoldsRows, IsAnswered, IsLiveTuple, IsRowFile, OfBytes, OnlyDraftChanges, OnlyRowsChange, live_rows, row, rows, slots};
 
-use crate::rows::{get_tuple, is_live, values_suit};
+use crate::rows::{is_live, values_suit};
 use crate::tuples::{ROW_SIZE, Tuples};
 use crate::waiting::Waiting;
 use afl_base::{Failed, FileError, Files};
-use db_model::{Attributes, Tuple, row_length};
+use db_model::{Attributes, row_length};
 
 impl Tuples {
-    /// Asks `removed` once about each live row, and removes those for which it answers true. Their
-    /// fields stay, and so do all other rows and all slots. It asks nothing about a removed row.
+    /// Asks `removed` once about the bytes of each live row, and removes those for which it answers true.
+    /// Their fields stay, and so do all other rows and all slots. It asks nothing about a removed row.
     ///
     /// The file is replaced by a draft, for which `Space` has the `need`.
-    pub fn rewrite<V: Files, F: Fn(&Tuple) -> bool>(
+    pub fn rewrite<V: Files, F: Fn(&[u8]) -> bool>(
         &self,
         files: &mut V,
         removed: F,
     ) -> Result<(), FileError>
         requires holds { HoldsRows (V.state files.old) self.now }
         requires idle { (V.state files.old).draft ≡ None }
-        requires callable { (tuple : _) → AllSuit self.now.schema.attributes tuple.now
+        requires callable { let attributes = self.now.schema.attributes in
+            (bytes : _) → length bytes.now ≡ row_length attributes
+            → AllSuit attributes (tuple_of attributes bytes.now)
             → (IsTrue (V.state files.old).tells
-            → IsLiveTuple (V.state files.old).files self.now tuple.now)
-            → F.pre removed tuple }
+            → IsLiveTuple (V.state files.old).files self.now (tuple_of attributes bytes.now))
+            → F.pre removed bytes }
         ensures rows { IsTrue (V.state files.old).tells
-            → OnOk result (AreAnswered (FnReturnsAt F.Fn removed) (rows (V.state files.old).files self.now)
-            (rows (V.state files.new).files self.now)) }
+            → OnOk result (AreAnswered (OfBytes self.now.schema.attributes (FnReturnsAt F.Fn removed))
+            (rows (V.state files.old).files self.now) (rows (V.state files.new).files self.now)) }
         ensures suit { IsTrue (V.state files.old).tells
             → OnOk result (AllRowsSuit self.now.schema.attributes
             (rows (V.state files.new).files self.now)) }
@@ -52,8 +54,8 @@ impl Tuples {
         ensures kept { OnSpace result (λ _. Keeps (V.state files.old) (V.state files.new)) }
         ensures cut { CutKeepsOrLeaves V.cuts V.mends V.state files.old files.new (WhereFailed result)
             (λ after. OnlyRowsChange (V.state files.old) after self.now
-            × AreAnswered (FnReturnsAt F.Fn removed) (rows (V.state files.old).files self.now)
-            (rows after.files self.now)
+            × AreAnswered (OfBytes self.now.schema.attributes (FnReturnsAt F.Fn removed))
+            (rows (V.state files.old).files self.now) (rows after.files self.now)
             × AllRowsSuit self.now.schema.attributes (rows after.files self.now)
             × HasWholeRows after self.now) }
         ensures frame { ChangesOrLacks V.state V.lent V.reads V.faults V.lacks files.old files.new result }
@@ -67,7 +69,7 @@ impl Tuples {
     }
 
     // Writes each row into the draft as `removed` answers about it.
-    fn draft_answered<V: Files, F: Fn(&Tuple) -> bool>(
+    fn draft_answered<V: Files, F: Fn(&[u8]) -> bool>(
         &self,
         files: &mut V,
         count: u16,
@@ -75,10 +77,12 @@ impl Tuples {
     ) -> Result<(), Failed>
         requires holds { HoldsRows (V.state files.old) self.now }
         requires count { count ≡ slots (V.state files.old).files self.now }
-        requires callable { (tuple : _) → AllSuit self.now.schema.attributes tuple.now
+        requires callable { let attributes = self.now.schema.attributes in
+            (bytes : _) → length bytes.now ≡ row_length attributes
+            → AllSuit attributes (tuple_of attributes bytes.now)
             → (IsTrue (V.state files.old).tells
-            → IsLiveTuple (V.state files.old).files self.now tuple.now)
-            → F.pre removed.now tuple }
+            → IsLiveTuple (V.state files.old).files self.now (tuple_of attributes bytes.now))
+            → F.pre removed.now bytes }
         requires begun { IsSome (V.state files.old).draft }
         requires size { length (draft_in (V.state files.old)).bytes
             ≡ size_at (V.state files.old).files self.now.file }
@@ -87,41 +91,50 @@ impl Tuples {
             → IsZeroDraft (V.state files.old) (size_at (V.state files.old).files self.now.file) }
         ensures rows { IsTrue (V.state files.old).tells
             → OnOk result ((news : List Row)
-            × AreAnswered (FnReturnsAt F.Fn removed.now) (rows (V.state files.old).files self.now) news
+            × AreAnswered (OfBytes self.now.schema.attributes (FnReturnsAt F.Fn removed.now))
+            (rows (V.state files.old).files self.now) news
             × AllRowsSuit self.now.schema.attributes news
             × ((draft_in (V.state files.new)).bytes ≡ rows_bytes self.now.schema.attributes news)) }
         ensures only { OnOk result (OnlyDraftChanges (V.state files.old) (V.state files.new)) }
         ensures cut { CutKeeps V.cuts V.mends V.state files.old files.new (OnErr result) }
         ensures frame { Changes V.state V.lent V.reads V.faults files.old files.new result }
     {
+        let mut bytes = [0; ROW_SIZE];
+        let row = &mut bytes[..row_length(&self.schema.attributes)];
         let mut waiting = Waiting::new();
         for slot in 0..count {
-            self.draft_answer(files, slot, removed, &mut waiting)?;
+            self.draft_answer(files, slot, removed, row, &mut waiting)?;
         }
         waiting.flush(files)?;
         Ok(())
     }
 
-    // Puts the row in the slot after those that wait, as `removed` answers about it.
-    fn draft_answer<V: Files, F: Fn(&Tuple) -> bool>(
+    // Puts the row in the slot after those that wait, as `removed` answers about it. Its bytes are read
+    // into `bytes`.
+    fn draft_answer<V: Files, F: Fn(&[u8]) -> bool>(
         &self,
         files: &mut V,
         slot: u16,
         removed: &F,
+        bytes: &mut [u8],
         waiting: &mut Waiting,
     ) -> Result<(), Failed>
         requires holds { HoldsRows (V.state files.old) self.now }
         requires slot { slot < slots (V.state files.old).files self.now }
-        requires callable { (tuple : _) → AllSuit self.now.schema.attributes tuple.now
+        requires size { length bytes.old ≡ row_length self.now.schema.attributes }
+        requires callable { let attributes = self.now.schema.attributes in
+            (bytes : _) → length bytes.now ≡ row_length attributes
+            → AllSuit attributes (tuple_of attributes bytes.now)
             → (IsTrue (V.state files.old).tells
-            → IsLiveTuple (V.state files.old).files self.now tuple.now)
-            → F.pre removed.now tuple }
+            → IsLiveTuple (V.state files.old).files self.now (tuple_of attributes bytes.now))
+            → F.pre removed.now bytes }
         requires takes { TakesRows (V.state files.old) waiting.old }
         requires range { HasSlot (V.state files.old) self.now slot }
         requires behind { end_of_waiting waiting.old ≡ row_length self.now.schema.attributes * slot }
         ensures row { IsTrue (V.state files.old).tells
             → OnOk result ((new : Row)
-            × IsAnswered (FnReturnsAt F.Fn removed.now) (row (V.state files.old).files self.now slot) new
+            × IsAnswered (OfBytes self.now.schema.attributes (FnReturnsAt F.Fn removed.now))
+            (row (V.state files.old).files self.now slot) new
             × AllSuit self.now.schema.attributes new.tuple
             × PutsRow (gathered (V.state files.old) waiting.old) (gathered (V.state files.new) waiting.new)
             self.now slot new) }
@@ -129,15 +142,14 @@ impl Tuples {
             → OnOk result (IsFree (V.state files.new) waiting.new) }
         ensures behind { OnOk result (end_of_waiting waiting.new
             ≡ row_length self.now.schema.attributes * (slot + 1)) }
+        ensures size { OnOk result (length bytes.new ≡ length bytes.old) }
         ensures only { OnOk result (OnlyDraftChanges (V.state files.old) (V.state files.new)) }
         ensures cut { CutKeeps V.cuts V.mends V.state files.old files.new (OnErr result) }
         ensures frame { Changes V.state V.lent V.reads V.faults files.old files.new result }
     {
-        let mut bytes = [0; ROW_SIZE];
-        let row = &mut bytes[..row_length(&self.schema.attributes)];
-        self.read(files, slot, row)?;
-        answer(&self.schema.attributes, row, removed);
-        waiting.put(files, row)?;
+        self.read(files, slot, bytes)?;
+        answer(&self.schema.attributes, bytes, removed);
+        waiting.put(files, bytes)?;
         Ok(())
     }
 
@@ -336,13 +348,13 @@ impl Tuples {
 }
 
 // Marks the bytes of a live row as removed, if `removed` answers so about it.
-fn answer<F: Fn(&Tuple) -> bool>(attributes: &Attributes, row: &mut [u8], removed: &F)
+fn answer<F: Fn(&[u8]) -> bool>(attributes: &Attributes, row: &mut [u8], removed: &F)
     requires size { length row.old ≡ row_length attributes.now }
     requires callable { (shown : _) → IsTrue (row_of attributes.now row.old).live
-        → shown.now ≡ tuple_of attributes.now row.old → AllSuit attributes.now shown.now
+        → shown.now ≡ row.old → AllSuit attributes.now (tuple_of attributes.now row.old)
         → F.pre removed.now shown }
     ensures answered { row_bytes attributes.now (row_of attributes.now row.old) ≡ row.old → (new : Row)
-        × IsAnswered (FnReturnsAt F.Fn removed.now) (row_of attributes.now row.old) new
+        × IsAnswered (OfBytes attributes.now (FnReturnsAt F.Fn removed.now)) (row_of attributes.now row.old) new
         × AllSuit attributes.now new.tuple × (row.new ≡ row_bytes attributes.now new) }
     ensures size { length row.new ≡ length row.old }
 {
@@ -350,19 +362,17 @@ fn answer<F: Fn(&Tuple) -> bool>(attributes: &Attributes, row: &mut [u8], remove
     if !is_live(row) {
         return;
     }
-    let mut tuple = Tuple::new();
-    get_tuple(attributes, row, &mut tuple);
-    if answer_about(&tuple, removed) {
+    if answer_about(row, removed) {
         mark_removed(row);
     }
 }
 
-// What `removed` answers about a tuple.
-fn answer_about<F: Fn(&Tuple) -> bool>(tuple: &Tuple, removed: &F) -> bool
-    requires { (shown : _) → shown.now ≡ tuple.now → F.pre removed.now shown }
-    ensures { FnReturnsAt F.Fn removed.now tuple.now result }
+// What `removed` answers about the bytes of a row.
+fn answer_about<F: Fn(&[u8]) -> bool>(row: &[u8], removed: &F) -> bool
+    requires { (shown : _) → shown.now ≡ row.now → F.pre removed.now shown }
+    ensures { FnReturnsAt F.Fn removed.now row.now result }
 {
-    removed(tuple)
+    removed(row)
 }
 
 // Makes the last byte of a row the mark of a removed one.

@@ -6,9 +6,9 @@ ghost use Rattle.std.specs.Prelude.{◌≡◌, ◌≤◌, length, option_map, sl
 ghost use Rattle.db_model.specs.Row.{field_of, fields_length, text_or_empty, tuple_of, width};
 ghost use Rattle.tuple_file.specs.Lent.{value_in};
 
-use crate::fields::{is_text_field, time_or_least};
+use crate::fields::{is_text_field, time_or_least, value_of};
 use afl_base::{get_i32, get_i64, get_u16};
-use db_model::{Attribute, Domain, up_to_zero, width};
+use db_model::{Attribute, Domain, Value, up_to_zero, width};
 
 /// The value of a field, which lends its text.
 #[derive(Clone, Copy)]
@@ -27,6 +27,23 @@ pub fn field_at<'a>(attributes: &[Attribute], row: &'a [u8], place: u8) -> Optio
     for attribute in attributes {
         if before == 0 {
             return Some(decoded(attribute.domain, rest));
+        }
+        rest = &rest[width(attribute.domain)..];
+        before -= 1;
+    }
+    None
+}
+
+/// The same value with a text of its own.
+pub fn value_at(attributes: &[Attribute], row: &[u8], place: u8) -> Option<Value>
+    requires { fields_length attributes.now ≤ length row.now }
+    ensures { result ≡ slice_get (tuple_of attributes.now row.now) place }
+{
+    let mut rest = row;
+    let mut before = place;
+    for attribute in attributes {
+        if before == 0 {
+            return Some(value_of(attribute.domain, rest));
         }
         rest = &rest[width(attribute.domain)..];
         before -= 1;

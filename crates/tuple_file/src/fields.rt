@@ -43,6 +43,20 @@ pub fn push_field<'a>(domain: Domain, bytes: &'a [u8], into: &mut Tuple) -> &'a 
     }
 }
 
+// The value of the field that `bytes` begin with, the least of its domain where they are none.
+#[tactic(auto, unfolding(afl_base::specs::Fields::u16_at, afl_base::specs::Fields::i32_at, afl_base::specs::Fields::i64_at))]
+pub fn value_of(domain: Domain, bytes: &[u8]) -> Value
+    requires { width domain ≤ length bytes.now }
+    ensures { result ≡ field_of domain bytes.now }
+{
+    match domain {
+        Domain::Int => Value::Number(i64::from(get_u16(bytes, 0).cast_signed())),
+        Domain::Long => Value::Number(i64::from(get_i32(bytes, 0))),
+        Domain::Time => Value::Number(time_or_least(get_i64(bytes, 0))),
+        Domain::Str(n) => Value::Text(text_or_empty(&bytes[..n as usize])),
+    }
+}
+
 // This number where it is a time, else the least time.
 pub fn time_or_least(number: i64) -> i64
     ensures { result ≡ time_or_least number }

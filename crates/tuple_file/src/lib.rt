@@ -9,6 +9,6 @@ mod rows;
 mod tuples;
 mod waiting;
 
-pub use field::{Field, field_at};
-pub use rows::{get_tuple, is_live};
+pub use field::{Field, field_at, value_at};
+pub use rows::{get_tuple, is_live, values_suit};
 pub use tuples::{ROW_SIZE, Tuples};

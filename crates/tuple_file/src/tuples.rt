@@ -78,13 +78,13 @@ impl Tuples {
         self.get(files, slot.number(), into)
     }
 
-    /// The bytes of a row.
+    /// The bytes of a row, of which there are at most 128.
     pub fn length(&self) -> usize
-        requires { row_length self.now.schema.attributes ≤ 128 }
-        ensures value { result ≡ row_length self.now.schema.attributes }
+        ensures value { row_length self.now.schema.attributes ≤ 128
+            → result ≡ row_length self.now.schema.attributes }
         ensures short { result ≤ 128 }
     {
-        row_length(&self.schema.attributes)
+        row_length(&self.schema.attributes).min(ROW_SIZE)
     }
 
     /// Fills `into` with the bytes of the row in the slot.

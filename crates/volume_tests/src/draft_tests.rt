@@ -7,7 +7,6 @@ use crate::mounted::{SIZE, erased, mounted, named};
 use crate::rows::{make_short_rows, short_rows};
 use afl_base::{FileError, Files, Name};
 use afl_sim::CutFlash;
-use db_model::Value;
 
 // What is done with the rows of a relation.
 #[derive(Clone, Copy)]
@@ -38,9 +37,9 @@ fn remove_odd<V: Files>(files: &mut V, name: Name) -> Result<bool, FileError>
     if !tuples.valid(files, 2)? {
         return Ok(false);
     }
-    tuples.rewrite(files, |tuple| match tuple.as_slice() {
-        [Value::Number(number)] => number % 2 == 1,
-        _ => false,
+    tuples.rewrite(files, |row: &[u8]| match row.first() {
+        Some(low) => *low % 2 == 1,
+        None => false,
     })?;
     Ok(true)
 }

@@ -1,10 +1,13 @@
-use Rattle.std.proofs.Common.{arith, List, ◌++◌, refl, sym, subst, ap, ◌∙◌, append-nil}
+use Rattle.std.proofs.Common.{rules, arith, ◌≡◌, ◌<◌, ℕ, length, List, ◌++◌, refl, sym, subst, ap, ◌∙◌, append-nil}
 use Rattle.db_model.specs.declared.values.Value.{Value}
-use Rattle.db_model.specs.Row.{AllSuit}
+use Rattle.db_model.specs.declared.schemas.Attribute.{Attribute}
+use Rattle.db_model.specs.Row.{AllSuit, tuple_of}
+use Rattle.aggregate.specs.Limits.{Suits}
+use Rattle.session_model.specs.View.{value_at}
 use Rattle.cursor.specs.declared.select.SelectCursor.{SelectCursor}
 use Rattle.tuple_file.specs.Tuples.{rows}
 use Rattle.tuple_file.specs.declared.tuples.Tuples.{Tuples}
-use Rattle.session_queries.specs.Folded.{AreFolding}
+use Rattle.session_queries.specs.Folded.{AreFolding, TakesValue, item_at, tally_at}
 use Rattle.session_queries.proofs.Passes.{fold_begins, fold_goes_on}
 use Rattle.session_queries.proofs.Suited.{all_suit}
 use Rattle.session_queries.proofs.passing.fold_rows.Goals as goal
@@ -12,15 +15,22 @@ use Rattle.session_queries.proofs.passing.fold_rows.Goals as goal
 pub push_all-requires-clause-suits : goal.push_all-requires-clause-suits
 push_all-requires-clause-suits g c =
     let inv = c.rows.invariant in
+    let attributes = c.args.cursor.now.tuples.schema.attributes in
     let suit = rw c.in-Ok-Some.field-0-is at c.in-Ok-Some.ensures.suits in
-    all_suit c.args.cursor.now.tuples.schema.attributes c.next.new.into c.args.items.now c.rows.tallies c.requires.suit
-    (subst (λ (t : Tuples). AllSuit t.schema.attributes c.next.new.into) inv.tuples suit) inv.aggs
+    let same : c.as_slice.result.now ≡ attributes = c.as_slice.ensures.items ∙ ap (λ (x : SelectCursor). x.tuples.schema.attributes) c.in-Ok-Some.ensures.stands ∙ ap (λ (t : Tuples). t.schema.attributes) inv.tuples in
+    let row = c.next_bytes.new.row in
+    subst (λ (those : List Attribute). (i : ℕ) → i < length c.args.items.now → Suits (tally_at c.rows.tallies i).fold.agg (value_at (tuple_of those row) (item_at c.args.items.now i).1)) (sym same)
+    (all_suit attributes (tuple_of attributes row) c.args.items.now c.rows.tallies c.requires.suit
+    (subst (λ (t : Tuples). AllSuit t.schema.attributes (tuple_of t.schema.attributes row)) inv.tuples suit) inv.aggs)
 
 pub rows-preserved : goal.rows-preserved
 rows-preserved g c =
     let inv = c.rows.invariant in
     let h = c.in-Ok-Some.ensures in
-    let takes = c.push_all.ensures.takes in
+    let attributes = c.args.cursor.now.tuples.schema.attributes in
+    let row = c.next_bytes.new.row in
+    let same : c.as_slice.result.now ≡ attributes = c.as_slice.ensures.items ∙ ap (λ (x : SelectCursor). x.tuples.schema.attributes) h.stands ∙ ap (λ (t : Tuples). t.schema.attributes) inv.tuples in
+    let takes = subst (λ (those : List Attribute). (i : ℕ) → i < length c.args.items.now → TakesValue (value_at (tuple_of those row) (item_at c.args.items.now i).1) (tally_at c.rows.tallies i) (tally_at c.push_all.new.tallies i)) same c.push_all.ensures.takes in
     let advances = rw c.in-Ok-Some.field-0-is at h.advances in
     let forward = advances.forward in
     let order = forward.0 in
@@ -33,6 +43,7 @@ rows-preserved g c =
       tuples = ap (λ (x : SelectCursor). x.tuples) h.stands ∙ inv.tuples;
       code = ap (λ (x : SelectCursor). x.code) h.stands ∙ inv.code;
       slots = advances.slots ∙ inv.slots;
+      row = λ some. h.size ∙ inv.row some;
       may_read = rw inv.same at h.may_read;
       many = c.push_all.ensures.many ∙ inv.many;
       aggs = λ i inside. (takes i inside).agg ∙ inv.aggs i inside;
@@ -41,8 +52,8 @@ rows-preserved g c =
       told = λ t f.
           let s = inv.told t f in
           let y = rw c.in-Ok-Some.field-0-is at ((rw (inv.same, inv.tuples) at h.yields) t s.fits) in
-          fold_goes_on (g.V.Files.state c.args.files.now) c.args.tables.now (rows (g.V.Files.state c.args.files.now).files c.args.cursor.now.tuples) c.args.items.now c.args.cursor.now c.rows.cursor c.next.new.self c.args.tallies.now c.rows.tallies c.push_all.new.tallies c.next.new.into
-          (g.V.Files.reads c.args.files.now) (g.V.Files.reads c.rows.files) (g.V.Files.reads c.next.new.files) s
+          fold_goes_on (g.V.Files.state c.args.files.now) c.args.tables.now (rows (g.V.Files.state c.args.files.now).files c.args.cursor.now.tuples) c.args.items.now c.args.cursor.now c.rows.cursor c.next_bytes.new.self c.args.tallies.now c.rows.tallies c.push_all.new.tallies (tuple_of attributes row)
+          (g.V.Files.reads c.args.files.now) (g.V.Files.reads c.rows.files) (g.V.Files.reads c.next_bytes.new.files) s
           y.next y.fits takes y.reads;
     }
 
@@ -69,6 +80,7 @@ rows-init g c = record {
   tuples = refl;
   code = refl;
   slots = refl;
+  row = search rules;
   may_read = c.requires.may_read;
   many = refl;
   aggs = c.requires.aggs;

@@ -1,4 +1,5 @@
-use Rattle.std.proofs.Common.{◌≡◌, ◌≤◌, ◌-◌, ℕ, IsTrue, length}
+use Rattle.std.proofs.Common.{◌≡◌, ◌<◌, ◌≤◌, ◌-◌, ℕ, IsTrue, length}
+use Rattle.db_model.specs.Row.{row_length}
 use Rattle.index_set.specs.Walks.{Fits}
 use Rattle.cursor.specs.Remaining.{MayRead}
 use Rattle.tuple_file.specs.Tuples.{rows}
@@ -15,6 +16,7 @@ invariant-rows g l = record {
   tuples : l.cursor.tuples ≡ l.fn.cursor.tuples;
   code : l.cursor.code ≡ l.fn.cursor.code;
   slots : l.cursor.candidates.slots ≡ l.fn.cursor.candidates.slots;
+  row : 0 < l.fn.cursor.candidates.slots → length l.row ≡ row_length l.fn.cursor.tuples.schema.attributes;
   may_read : MayRead (g.V.Files.state l.fn.files) l.cursor.tuples l.cursor.candidates;
   many : length l.tallies ≡ length l.fn.tallies;
   aggs : HaveAggs l.items l.tallies;

@@ -1,4 +1,5 @@
-use Rattle.std.proofs.Common.{◌≡◌, ◌≤◌, ◌-◌, IsTrue}
+use Rattle.std.proofs.Common.{◌≡◌, ◌<◌, ◌≤◌, ◌-◌, IsTrue, length}
+use Rattle.db_model.specs.Row.{row_length}
 use Rattle.index_set.specs.Walks.{Fits}
 use Rattle.cursor.specs.Remaining.{MayRead}
 use Rattle.tuple_file.specs.Tuples.{rows}
@@ -15,6 +16,7 @@ invariant-rows g l = record {
   sink_lent : g.K.Sink.lent l.out ≡ g.K.Sink.lent l.fn.out;
   tuples : l.cursor.tuples ≡ l.fn.cursor.tuples;
   slots : l.cursor.candidates.slots ≡ l.fn.cursor.candidates.slots;
+  row : 0 < l.fn.cursor.candidates.slots → length l.row ≡ row_length l.fn.cursor.tuples.schema.attributes;
   few : l.count ≤ l.cursor.candidates.from;
   may_read : MayRead (g.V.Files.state l.fn.files) l.cursor.tuples l.cursor.candidates;
   told : IsTrue (g.V.Files.state l.fn.files).tells → Fits l.fn.cursor.candidates (g.V.Files.state l.fn.files) l.tables (rows (g.V.Files.state l.fn.files).files l.fn.cursor.tuples)

@@ -1,5 +1,6 @@
 use Rattle.std.proofs.Common.{rules, ap, ◌∙◌, Some, IsTrue, arith, subst}
 use Rattle.afl_base.specs.Files.{State}
+use Rattle.db_model.specs.Row.{tuple_of}
 use Rattle.index_set.specs.Walks.{Fits}
 use Rattle.tuple_file.specs.declared.tuples.Tuples.{Tuples}
 use Rattle.tuple_file.specs.Tuples.{rows}
@@ -14,14 +15,14 @@ slots-preserved g c =
     let s1 = g.V.Files.state c.slots.files in
     let c0 = c.args.cursor.now in
     let c1 = c.slots.cursor in
-    let c2 = c.next.new.self in
+    let c2 = c.next_bytes.new.self in
     let tables = c.args.tables.now in
     let inv = c.slots.invariant in
     let slot = c.in-Some.slot in
     let h = c.in_ok-slot.ensures in
     let r1 = g.V.Files.reads c.slots.files in
-    let r2 = g.V.Files.reads c.next.new.files in
-    let Y : State → Tuples → Type 0 = λ s t. IsTrue s.tells → Fits c1.candidates s tables (rows s.files t) → Yields (Some slot) c.next.new.into c1 c2 s tables (rows s.files t) r1 r2 in
+    let r2 = g.V.Files.reads c.next_bytes.new.files in
+    let Y : State → Tuples → Type 0 = λ s t. IsTrue s.tells → Fits c1.candidates s tables (rows s.files t) → Yields (Some slot) (tuple_of t.schema.attributes c.next_bytes.new.row) c1 c2 s tables (rows s.files t) r1 r2 in
     let yields = subst (λ (t : Tuples). Y s0 t) inv.tuples (subst (λ (s : State). Y s c1.tuples) inv.same (rw c.in-Some.is at h.yields)) in
     let advances = rw c.in-Some.is at h.advances in
     let low = advances.below in
@@ -36,6 +37,7 @@ slots-preserved g c =
       tuples = ap (λ (x : SelectCursor). x.tuples) h.stands ∙ inv.tuples;
       code = ap (λ (x : SelectCursor). x.code) h.stands ∙ inv.code;
       slots = advances.slots ∙ inv.slots;
+      row = λ some. h.size ∙ inv.row some;
       few = omega (arith, inv.few, order, from, c.add.ensures.count);
       firsts = search rules;
       may_read = search rules;

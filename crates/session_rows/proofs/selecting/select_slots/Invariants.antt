@@ -1,4 +1,5 @@
-use Rattle.std.proofs.Common.{◌≡◌, ◌≤◌, ◌-◌, IsTrue, length}
+use Rattle.std.proofs.Common.{◌≡◌, ◌<◌, ◌≤◌, ◌-◌, IsTrue, length}
+use Rattle.db_model.specs.Row.{row_length}
 use Rattle.index_set.specs.Walks.{Fits}
 use Rattle.tuple_file.specs.Tuples.{rows}
 use Rattle.cursor.specs.Remaining.{MayRead, slots_to_answer}
@@ -14,6 +15,7 @@ invariant-slots g l = record {
   tuples : l.cursor.tuples ≡ l.fn.cursor.tuples;
   code : l.cursor.code ≡ l.fn.cursor.code;
   slots : l.cursor.candidates.slots ≡ l.fn.cursor.candidates.slots;
+  row : 0 < l.fn.cursor.candidates.slots → length l.row ≡ row_length l.fn.cursor.tuples.schema.attributes;
   few : l.selected.count ≤ l.cursor.candidates.from;
   firsts : length l.selected.first ≤ l.selected.count;
   may_read : MayRead (g.V.Files.state l.fn.files) l.cursor.tuples l.cursor.candidates;

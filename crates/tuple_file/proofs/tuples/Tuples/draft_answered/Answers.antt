@@ -1,9 +1,9 @@
-use Rattle.std.proofs.Common.{◌≡◌, ◌*◌, ◌∙◌, ℕ, refl, sym, ap, subst, length, List, replicate, arith}
+use Rattle.std.proofs.Common.{rules, ◌≡◌, ◌*◌, ◌∙◌, ℕ, refl, sym, ap, subst, length, List, replicate, arith}
 use Rattle.std.specs.Fn.{FnReturnsAt}
 use Rattle.afl_base.specs.Files.{Table, bytes_at, draft_in}
 use Rattle.db_model.specs.Row.{Row, row_length}
 use Rattle.tuple_file.specs.Gathered.{gathered}
-use Rattle.tuple_file.specs.Tuples.{AreAnswered, IsAnswered, row, slots}
+use Rattle.tuple_file.specs.Tuples.{AreAnswered, IsAnswered, OfBytes, row, slots}
 use Rattle.tuple_file.proofs.Answered.{Rewritten, rewritten_all, rewritten_more, rewritten_none}
 use Rattle.tuple_file.proofs.Gathered.{free_none, gathered_none}
 use Rattle.tuple_file.proofs.Written.{all_rows, first_rows, length-first_rows, more_rows, no_rows}
@@ -16,7 +16,7 @@ loop-slot-init g c =
     let state = g.V.Files.state c.args.files.now in
     let draft = (draft_in state).bytes in
     let size : ℕ = length (bytes_at state.files c.args.self.now.file) in
-    let answers = FnReturnsAt g.F.Fn c.args.removed.now in
+    let answers = OfBytes c.args.self.now.schema.attributes (FnReturnsAt g.F.Fn c.args.removed.now) in
     let waits = c.new-waiting.result in
     let none = c.new-waiting.ensures.none in
     record {
@@ -25,6 +25,7 @@ loop-slot-init g c =
       lent = refl;
       later = omega arith;
       faults = omega arith;
+      row = search rules;
       behind = omega (arith, c.new-waiting.ensures.at, ap (λ xs. length xs) none);
       free = λ told. free_none draft size waits.at (c.requires.zeros told);
       rewritten = λ told.
@@ -37,7 +38,7 @@ loop-slot-preserved g c =
     let attributes = c.args.self.now.schema.attributes in
     let files = (g.V.Files.state c.args.files.now).files in
     let bytes = bytes_at files c.args.self.now.file in
-    let answers = FnReturnsAt g.F.Fn c.args.removed.now in
+    let answers = OfBytes c.args.self.now.schema.attributes (FnReturnsAt g.F.Fn c.args.removed.now) in
     let slot = c.loop-slot.slot in
     let inv = c.loop-slot.invariant in
     let done = c.in_ok-draft_answer.ensures in
@@ -50,6 +51,7 @@ loop-slot-preserved g c =
       lent = done.frame.lent ∙ inv.lent;
       later = omega (arith, inv.later, done.frame.later);
       faults = omega (arith, inv.faults, done.frame.cause.later);
+      row = done.size ∙ inv.row;
       behind = done.behind;
       free = λ told. done.free (inv.only.tells ∙ told);
       rewritten = λ told.
@@ -70,7 +72,7 @@ pub returns-clause-rows : goal.returns-clause-rows
 returns-clause-rows g c told =
     let attributes = c.args.self.now.schema.attributes in
     let bytes = bytes_at (g.V.Files.state c.args.files.now).files c.args.self.now.file in
-    let answers = FnReturnsAt g.F.Fn c.args.removed.now in
+    let answers = OfBytes c.args.self.now.schema.attributes (FnReturnsAt g.F.Fn c.args.removed.now) in
     let slot = c.loop-slot.slot in
     let inv = c.loop-slot.invariant in
     let end : slot ≡ slots (g.V.Files.state c.args.files.now).files c.args.self.now = omega (arith, c.loop-slot-test.false, c.loop-slot.auto.slot-end, c.requires.count) in

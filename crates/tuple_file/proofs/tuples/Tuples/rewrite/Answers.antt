@@ -3,7 +3,7 @@ use Rattle.std.specs.Fn.{FnReturnsAt}
 use Rattle.afl_base.specs.Files.{Table}
 use Rattle.db_model.specs.Row.{AllRowsSuit, Row}
 use Rattle.db_model.proofs.Rows.{rows_back}
-use Rattle.tuple_file.specs.Tuples.{AreAnswered, rows}
+use Rattle.tuple_file.specs.Tuples.{AreAnswered, OfBytes, rows}
 use Rattle.tuple_file.proofs.Cuts.{either_follows, only_committed, rows_committed, whole_committed}
 use Rattle.tuple_file.proofs.Drafted.{last_mark}
 use Rattle.tuple_file.proofs.Slots.{slots_of_whole}
@@ -28,7 +28,7 @@ returns-in_err-commit-clause-cut g c = λ cuts told failed.
     let mid = g.V.Files.state c.draft_answered.new.files in
     let tuples = c.args.self.now in
     let attributes = tuples.schema.attributes in
-    let answers = FnReturnsAt g.F.Fn c.args.removed in
+    let answers = OfBytes attributes (FnReturnsAt g.F.Fn c.args.removed) in
     let begun = c.in_ok-begin.ensures.begun in
     let drafted = c.in_ok-draft_answered.ensures in
     let said = drafted.rows (begun.tells ∙ told) in

@@ -3,7 +3,7 @@ use Rattle.index_set.specs.Walks.{Fits, ahead}
 use Rattle.tuple_file.specs.Tuples.{rows}
 use Rattle.cursor.specs.Remaining.{cost_of_slots, passed_until}
 use Rattle.cursor.proofs.Walking.{advances_then, passes_by, walk_more, walk_stops}
-use Rattle.cursor.proofs.walk.next_row.Goals as goal
+use Rattle.cursor.proofs.walk.next_bytes.Goals as goal
 
 pub returns-in_err-is_answer-in-Some-clause-reads_failed : goal.returns-in_err-is_answer-in-Some-clause-reads_failed
 returns-in_err-is_answer-in-Some-clause-reads_failed g c = λ told.
@@ -37,6 +37,7 @@ slots-preserved g c =
       faults = omega (arith, inv.faults, h.frame.faultless, read.frame.faultless);
       passes = passes_by c.in-Some.slot before c.next.new.self (advances_then (Some c.in-Some.slot) before c.slots.candidates c.next.new.self inv.passes inv.later advances);
       later = (let forward = advances.forward in let order = forward.0 in let from = forward.1 in omega (arith, inv.later, order, from));
+      size = read.size ∙ inv.size;
       told = λ told fits.
           let w = inv.told told fits in
           let step = (rw (inv.same, c.in-Some.is) at h.steps) told all w.fits in

@@ -1,8 +1,8 @@
-use Rattle.std.proofs.Common.{◌≡◌, ◌≤◌, ◌-◌, IsTrue, None}
+use Rattle.std.proofs.Common.{◌≡◌, ◌≤◌, ◌-◌, IsTrue, None, length}
 use Rattle.index_set.specs.Walks.{Advances, Fits}
 use Rattle.tuple_file.specs.Tuples.{rows}
 use Rattle.cursor.proofs.Walking.{Walking}
-use Rattle.cursor.proofs.walk.next_row.Given as goal
+use Rattle.cursor.proofs.walk.next_bytes.Given as goal
 
 abbrev pub invariant-slots : goal.invariant-slots
 invariant-slots g l = record {
@@ -12,6 +12,7 @@ invariant-slots g l = record {
   faults : g.V.Files.faults l.files ≡ g.V.Files.faults l.fn.files;
   passes : Advances None l.fn.candidates l.candidates;
   later : l.fn.candidates.from ≤ l.candidates.from;
+  size : length l.row ≡ length l.fn.row;
   told : IsTrue (g.V.Files.state l.fn.files).tells → Fits l.fn.candidates (g.V.Files.state l.fn.files) l.tables (rows (g.V.Files.state l.fn.files).files l.tuples)
       → Walking (g.V.Files.state l.fn.files) l.tables (rows (g.V.Files.state l.fn.files).files l.tuples) (g.T.Test.passes l.test)
       l.fn.candidates l.candidates (g.V.Files.reads l.fn.files) (g.V.Files.reads l.files);
