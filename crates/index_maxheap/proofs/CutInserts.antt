@@ -1,5 +1,5 @@
 -- What an insert that broke off leaves of a tree: its pairs name no slots but those that it had, and the next one.
-use Rattle.std.proofs.Common.{◌≡◌, ◌≢◌, ◌⊎◌, inl, inr, ⊎_elim, ℕ, zero, suc, ℤ, ◌+◌, ◌-◌, ◌*◌, ◌/◌, ◌<◌, ◌≤◌, List, [], ◌∷◌, ◌++◌, length, take, drop, get_or, refl, ap, sym, subst, ◌∙◌, arith, length-append, IsTrue}
+use Rattle.std.proofs.Common.{◌≡◌, ◌≢◌, ◌⊎◌, inl, inr, ⊎_elim, ℕ, zero, suc, ℤ, ◌+◌, ◌-◌, ◌*◌, ◌<◌, ◌≤◌, List, [], ◌∷◌, ◌++◌, length, take, drop, get_or, refl, ap, sym, subst, ◌∙◌, arith, length-append}
 use Rattle.std.specs.Prelude.{Err, Ok, OnErr, Result}
 use Rattle.std.proofs.lemmas.Bool.{cases_lt}
 use Rattle.std.proofs.lemmas.List.{get_or-append_right, get_or-drop, get_or-take, get_or_append_left, length-take-le}
@@ -7,10 +7,9 @@ use Rattle.byteorder.specs.Endian.{little_number}
 use Rattle.afl_base.specs.Fields.{put_at, u16_at}
 use Rattle.afl_base.specs.Files.{State, bytes_at}
 use Rattle.afl_base.proofs.FieldLaws.{length-put_at}
-use Rattle.db_model.specs.HashTree.{buckets, node}
-use Rattle.index_tree.specs.Buckets.{IsFirstBucket, IsPairBytes}
+use Rattle.db_model.specs.HashTree.{node}
 use Rattle.index_tree.specs.Ends.{spot_of}
-use Rattle.index_tree.specs.Pairs.{Pair, goes, pair_keys, reaching}
+use Rattle.index_tree.specs.Pairs.{Pair, goes, reaching}
 use Rattle.index_tree.specs.Rules.{bucket_count}
 use Rattle.index_tree.specs.TreeFile.{NamesOnly, bucket_place, number_of, place_of, slot_at}
 use Rattle.index_tree.specs.Trees.{IsTreeOf, numbered}
@@ -19,7 +18,7 @@ use Rattle.index_tree.proofs.Inserted.{grown_here, grown_new}
 use Rattle.index_tree.proofs.Law.{tree_of_rules}
 use Rattle.index_tree.proofs.Numbered.{keys_first, numbered_length, rises_numbered}
 use Rattle.index_tree.proofs.Spots.{node_small}
-use Rattle.index_maxheap.specs.Rooms.{MayInsert, MayPutBucket, MayPutPair, room_of}
+use Rattle.index_maxheap.specs.Rooms.{MayInsert, MayPutBucket, MayPutPair}
 use Rattle.index_maxheap.specs.Walks.{Finds}
 use Rattle.index_maxheap.specs.declared.rooms.End.TheVariants as end
 use Rattle.index_maxheap.specs.declared.rooms.Room.{Room}

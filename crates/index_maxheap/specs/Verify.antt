@@ -5,6 +5,7 @@ use Rattle.afl_base.specs.Fields.{u16_at}
 use Rattle.index_tree.specs.Buckets.{HasPair}
 use Rattle.index_tree.specs.Loads.{Counts}
 use Rattle.index_tree.specs.Pairs.{Pair, goes, pair_keys, no_pair, pairs_of, reaching}
+use Rattle.index_maxheap.specs.declared.verifying.Seen.{Seen}
 use Rattle.index_maxheap.specs.declared.verifying.Tail.{Tail}
 use Rattle.index_tree.specs.TreeFile.{HoldsPairs, IsTree, bucket_place, key_at, last_at, next_at, bucket_number, number_of, place_of, slot_at}
 
@@ -61,6 +62,9 @@ pub record Verifies (bytes loads places nexts fills : List ℕ) (ps : List Pair)
   pub three : (length places ≡ 341) × (length nexts ≡ 341) × (length fills ≡ 341)
   pub seen : AreSeen bytes ps
   pub tails : AreTails bytes loads places nexts fills
+
+abbrev pub HasSeen : List ℕ → Seen → List Pair → Type 0
+HasSeen bytes seen ps = Verifies bytes seen.loads seen.places seen.nexts seen.fills ps
 
 -- the numbers of the nodes, read alone
 abbrev pub AreHeads : List ℕ → List ℕ → Type 0

@@ -12,7 +12,7 @@ ghost use Rattle.index_tree.specs.Pairs.{pairs_of};
 ghost use Rattle.afl_base.specs.Keys.{first_keys};
 ghost use Rattle.index_tree.specs.Trees.{IsTreeOf};
 ghost use Rattle.index_tree.specs.TreeFile.{bucket_place, key_at, slot_at};
-ghost use Rattle.index_maxheap.specs.Verify.{AreHeads, Goes, IsDone, Opens, Verifies};
+ghost use Rattle.index_maxheap.specs.Verify.{AreHeads, Goes, HasSeen, IsDone, Opens};
 
 use crate::loads::level_with_room;
 use crate::path::node;
@@ -24,6 +24,16 @@ use afl_base::{Failed, FileId, Files, KeyColumn, SlotNo, get_i32, get_u16};
 pub struct Tail {
     pub next: u16,
     pub fill: u8,
+}
+
+/// Of each node how many pairs were seen, and its last bucket: its place, the number after it, and how
+/// many pairs it has.
+#[derive(Drop)]
+pub struct Seen {
+    pub loads: [u16; 341],
+    pub places: [u32; 341],
+    pub nexts: [u16; 341],
+    pub fills: [u8; 341],
 }
 
 fn is_key(bytes: &[u8], at: usize, key: &i32) -> bool
@@ -155,57 +165,53 @@ fn verify_slot<V: Files>(
     files: &mut V,
     index: FileId,
     heads: &[u8; HEAD_SIZE],
-    loads: &mut [u16; 341],
-    places: &mut [u32; 341],
-    nexts: &mut [u16; 341],
-    fills: &mut [u8; 341],
+    seen: &mut Seen,
     key: &i32,
     slot: SlotNo,
 ) -> Result<Option<u16>, Failed>
     requires live { IsLive (V.state files.old).files index }
-    requires light { (i : ℕ) → get_or loads.old i 0 ≤ slot }
+    requires light { (i : ℕ) → get_or seen.old.loads i 0 ≤ slot }
     requires inside { (i : ℕ)
-        → get_or places.old i 0 + 195 ≤ size_at (V.state files.old).files index }
-    requires low { (i : ℕ) → get_or places.old i 0 < 2 ^ 25 }
+        → get_or seen.old.places i 0 + 195 ≤ size_at (V.state files.old).files index }
+    requires low { (i : ℕ) → get_or seen.old.places i 0 < 2 ^ 25 }
     ensures goes { IsTrue (V.state files.old).tells → (f : ℕ → ℤ) → key.now ≡ f slot
         → AreHeads heads.now (bytes_at (V.state files.old).files index) →
-        Verifies (bytes_at (V.state files.old).files index) loads.old places.old nexts.old fills.old (pairs_of f slot) →
+        HasSeen (bytes_at (V.state files.old).files index) seen.old (pairs_of f slot) →
         IfOk result (λ opens. Goes opens (bytes_at (V.state files.old).files index) f slot
-        (λ _. Verifies (bytes_at (V.state files.old).files index) loads.new places.new nexts.new fills.new
-        (pairs_of f (slot + 1)))) }
+        (λ _. HasSeen (bytes_at (V.state files.old).files index) seen.new (pairs_of f (slot + 1)))) }
     ensures light { IfOk result (λ opens. IfSome opens (λ n. (n ≤ 1)
-        × ((i : ℕ) → get_or loads.new i 0 ≤ slot + 1))) }
+        × ((i : ℕ) → get_or seen.new.loads i 0 ≤ slot + 1))) }
     ensures inside { IfOk result (λ opens. (i : ℕ)
-        → get_or places.new i 0 + 195 ≤ size_at (V.state files.old).files index) }
-    ensures low { IfOk result (λ opens. (i : ℕ) → get_or places.new i 0 < 2 ^ 25) }
+        → get_or seen.new.places i 0 + 195 ≤ size_at (V.state files.old).files index) }
+    ensures low { IfOk result (λ opens. (i : ℕ) → get_or seen.new.places i 0 < 2 ^ 25) }
     ensures reads { V.reads files.new ≤ V.reads files.old + 9 }
     ensures frame { OnlyReads V.state V.lent V.reads V.faults files.old files.new result }
 {
-    let level = level_with_room(loads, key);
+    let level = level_with_room(&seen.loads, key);
     let node = node(key, level);
     let n = usize::from(node);
-    let load = loads[n];
+    let load = seen.loads[n];
     if load % 32 != 0 {
         if !has_pair(
             files,
             index,
-            places[n] + 6 * u32::from(load % 32),
+            seen.places[n] + 6 * u32::from(load % 32),
             key,
             slot,
         )? {
             return Ok(None);
         }
-        loads[n] = load + 1;
+        seen.loads[n] = load + 1;
         return Ok(Some(0));
     }
-    let number = number_for(heads, node, load, nexts[n]);
+    let number = number_for(heads, node, load, seen.nexts[n]);
     match open_bucket(files, index, number, level, key, slot)? {
         None => Ok(None),
         Some(tail) => {
-            loads[n] = load + 1;
-            places[n] = bucket_place(number - 1);
-            nexts[n] = tail.next;
-            fills[n] = tail.fill;
+            seen.loads[n] = load + 1;
+            seen.places[n] = bucket_place(number - 1);
+            seen.nexts[n] = tail.next;
+            seen.fills[n] = tail.fill;
             Ok(Some(1))
         }
     }
@@ -246,21 +252,16 @@ fn is_done(heads: &[u8; HEAD_SIZE], node: u16, load: u16, next: u16, fill: u8) -
 }
 
 // Whether all nodes are.
-fn are_done(
-    heads: &[u8; HEAD_SIZE],
-    loads: &[u16; 341],
-    nexts: &[u16; 341],
-    fills: &[u8; 341],
-) -> bool
+fn are_done(heads: &[u8; HEAD_SIZE], seen: &Seen) -> bool
     ensures yes { result ≡ true → (n : ℕ) → n < 341
-        → IsDone heads.now n (get_or loads.now n 0) (get_or nexts.now n 0) (get_or fills.now n 0) }
+        → IsDone heads.now n (get_or seen.now.loads n 0) (get_or seen.now.nexts n 0) (get_or seen.now.fills n 0) }
     ensures no_ { result ≡ false → (n : ℕ) × (n < 341)
-        × (IsDone heads.now n (get_or loads.now n 0) (get_or nexts.now n 0) (get_or fills.now n 0)
+        × (IsDone heads.now n (get_or seen.now.loads n 0) (get_or seen.now.nexts n 0) (get_or seen.now.fills n 0)
         → ⊥) }
 {
     for node in 0..341u16 {
         let n = usize::from(node);
-        if !is_done(heads, node, loads[n], nexts[n], fills[n]) {
+        if !is_done(heads, node, seen.loads[n], seen.nexts[n], seen.fills[n]) {
             return false;
         }
     }
@@ -298,10 +299,12 @@ pub fn verify<V: Files>(
     if heads[HEAD_SIZE - 1] != 1 {
         return Ok(false);
     }
-    let mut loads = [0u16; 341];
-    let mut places = [0u32; 341];
-    let mut nexts = [0u16; 341];
-    let mut fills = [0u8; 341];
+    let mut seen = Seen {
+        loads: [0; 341],
+        places: [0; 341],
+        nexts: [0; 341],
+        fills: [0; 341],
+    };
     let mut opened = 0u16;
     let column = &column;
     for slot in 0..slots {
@@ -309,17 +312,7 @@ pub fn verify<V: Files>(
             return Ok(false);
         };
         let key = column.key(files, slot)?;
-        match verify_slot(
-            files,
-            index,
-            &heads,
-            &mut loads,
-            &mut places,
-            &mut nexts,
-            &mut fills,
-            &key,
-            slot,
-        )? {
+        match verify_slot(files, index, &heads, &mut seen, &key, slot)? {
             None => return Ok(false),
             Some(opens) => opened += opens,
         }
@@ -327,5 +320,5 @@ pub fn verify<V: Files>(
     if size != bucket_place(opened) {
         return Ok(false);
     }
-    Ok(are_done(&heads, &loads, &nexts, &fills))
+    Ok(are_done(&heads, &seen))
 }

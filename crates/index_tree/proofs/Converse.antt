@@ -1,4 +1,5 @@
 -- The tree of slots' pairs meets the rules.
+use Rattle.std.proofs.lemmas.Grind.{common_steps}
 use Rattle.std.proofs.Common.{◌≡◌, ◌≢◌, ◌≤◌, ◌<◌, ◌+◌, ◌-◌, ℕ, ℤ, pos, Bool, true, zero, suc, List, [], ◌∷◌, ◌++◌, length, drop, get_or, refl, arith, ap, ◌∙◌, sym, ◌⊎◌, inl, inr, ⊎_elim, subst}
 use Rattle.std.specs.Prelude.{min}
 use Rattle.db_model.specs.HashTree.{buckets}
@@ -82,9 +83,7 @@ module _ (bytes : List ℕ) (f : ℕ → ℤ) (n : ℕ) (few_slots : n ≤ 32768
   count_is = let size = tree.size in omega (arith, size)
 
   named : (k : ℤ) (h : ℕ) → number_of bytes k h ≤ bucket_count bytes
-  named k h = ⊎_elim (λ (z : number_of bytes k h ≤ 0). omega (arith, z))
-      (λ (s : 0 < number_of bytes k h). let w = (tree.each k h).within (λ e. omega (arith, e, s)) in let all = whole in omega (arith, w, all))
-      (order (number_of bytes k h) 0)
+  named k h = grind (arith, common_steps, whole, order)
 
   o : ℕ → ℕ
   o i = opened_bucket (length (reaching (goes (f i)) (end_of i).0 (pairs_of f i)))

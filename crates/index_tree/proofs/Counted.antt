@@ -1,4 +1,5 @@
 -- How many buckets there are, and how many more after an insert.
+use Rattle.std.proofs.lemmas.Grind.{common_steps}
 use Rattle.std.proofs.Common.{◌≡◌, ◌≤◌, ◌<◌, ◌+◌, ◌*◌, ◌-◌, ◌/◌, ◌%◌, ℕ, ℤ, zero, suc, List, [], ◌∷◌, ◌++◌, length, drop, Bool, true, false, cond, refl, arith, ap, ◌∙◌, sym, ◌⊎◌, inl, inr, ⊎_elim, subst, add-one, length-append}
 use Rattle.std.specs.Prelude.{◌==◌}
 use Rattle.std.specs.List.{filter}
@@ -112,10 +113,7 @@ opened_some zero h = absurd (omega arith)
 opened_some (suc n) h = refl
 
 ceil_more : (n : ℕ) → (n + 1 + 31) / 32 ≡ (n + 31) / 32 + opened_bucket (n % 32)
-ceil_more n = ⊎_elim
-    (λ (some : 1 ≤ n % 32). rw (opened_some (n % 32) some) (omega arith))
-    (λ (none : n % 32 < 1). let z : n % 32 ≡ 0 = omega arith in rw z (omega (arith, z)))
-    (order 1 (n % 32))
+ceil_more n = grind (arith, common_steps, opened_some, order)
 
 pub all_stay : (ps : List Pair) → filter (λ (p : Pair). true) ps ≡ ps
 all_stay [] = refl
@@ -184,13 +182,7 @@ buckets_more ps q hop end = ap buckets (map-append (λ (p : Pair). p.key) ps (q 
 
 split_step : (level : ℕ) (k : ℤ) (a b c d n : ℕ) → a + b + c + d ≡ n → digit k level < 4 →
     a + cond (digit k level == 0) 1 0 + (b + cond (digit k level == 1) 1 0) + (c + cond (digit k level == 2) 1 0) + (d + cond (digit k level == 3) 1 0) ≡ n + 1
-split_step level k a b c d n sum small = ⊎_elim
-    (λ (e : digit k level ≡ 0). rw e (omega arith))
-    (λ (rest : (digit k level ≡ 1) ⊎ ((digit k level ≡ 2) ⊎ (digit k level ≡ 3))). ⊎_elim
-    (λ (e : digit k level ≡ 1). rw e (omega arith))
-    (λ (more : (digit k level ≡ 2) ⊎ (digit k level ≡ 3)). ⊎_elim (λ (e : digit k level ≡ 2). rw e (omega arith)) (λ (e : digit k level ≡ 3). rw e (omega arith)) more)
-    rest)
-    (ways (digit k level) small)
+split_step level k a b c d n sum small = grind (arith, common_steps, ways)
 
 length_cond : (b : Bool) (k : ℤ) (ks : List ℤ) → length (cond b (k ∷ ks) ks) ≡ length ks + cond b 1 0
 length_cond true k ks = omega arith

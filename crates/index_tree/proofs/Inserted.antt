@@ -1,4 +1,5 @@
 -- What an insert makes.
+use Rattle.std.proofs.lemmas.Grind.{common_steps}
 use Rattle.std.proofs.Common.{◌≡◌, ◌≢◌, ◌≤◌, ◌<◌, ◌+◌, ◌*◌, ◌-◌, ◌/◌, ◌^◌, ℕ, ℤ, pos, zero, suc, List, [], ◌∷◌, ◌++◌, length, get_or, replicate, refl, arith, ap, ◌∙◌, sym, ◌⊎◌, inl, inr, ⊎_elim}
 use Rattle.std.specs.Prelude.{FitsSigned, slice_set, IsTrue}
 use Rattle.std.specs.Int.{w32}
@@ -63,13 +64,7 @@ unfolding i32_bytes
 long_i32 z = refl
 
 pub pair_is : (a b c : List ℕ) (key : ℤ) (n slot : ℕ) → length a ≡ 6 → b ≡ put_at a 0 (i32_bytes key) → c ≡ put_at b 4 (u16_bytes n) → length (i32_bytes key) ≡ 4 → length (u16_bytes n) ≡ 2 → FitsSigned w32 key → n ≡ slot + 1 → n < 2 ^ 16 → IsPairBytes c (record { key = key; slot = slot })
-pair_is a b c key n slot long b_is c_is four two fits is small =
-    let long_b : length b ≡ 6 = rw b_is (length-put_at a (i32_bytes key) 0 (omega arith) ∙ long) in
-    record {
-      long = rw c_is (length-put_at b (u16_bytes n) 4 (omega arith) ∙ long_b);
-      key = rw c_is (i32_stays b (u16_bytes n) 4 0 (omega arith) (inl (omega arith)) ∙ rw b_is (i32_at-put_at a 0 key (omega arith) fits));
-      slot = rw c_is (u16_at-put_at b 4 n (omega arith) small ∙ is);
-    }
+pair_is a b c key n slot long b_is c_is four two fits is small = grind (arith, common_steps, length-put_at, i32_stays, i32_at-put_at, u16_at-put_at)
 
 set_same : (xs : List ℕ) (at v p n : ℕ) → (p + n ≤ at) ⊎ (at < p) → SameBytes (slice_set xs at v) xs p p n
 set_same xs at v p n (inl before) = λ i h. get_or-set_other xs at (p + i) v 0 (λ z. omega arith)

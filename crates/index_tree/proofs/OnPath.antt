@@ -1,4 +1,5 @@
 -- Which buckets of a tree's file lie on the path of a key, and places in them.
+use Rattle.std.proofs.lemmas.Grind.{common_steps}
 use Rattle.std.proofs.Common.{◌≡◌, ◌≢◌, ◌≤◌, ◌<◌, ◌+◌, ◌*◌, ◌-◌, ◌/◌, add-one, ℕ, ℤ, zero, suc, List, [], ◌∷◌, length, drop, get_or, Bool, true, false, cond, refl, arith, ap, ◌∙◌, sym, ⊎_elim, subst}
 use Rattle.std.specs.Prelude.{◌&&◌, nat_le}
 use Rattle.std.specs.List.{filter}
@@ -63,10 +64,7 @@ full_to bytes ps key hop tree some =
 
 -- keys of one lowest node have one path
 ways_of : (a b : ℤ) → node a 4 ≡ node b 4 → (i : ℕ) → Same a b i
-ways_of a b e i = ⊎_elim
-    (λ (deep : 4 ≤ i). chain_same a b i deep)
-    (λ (low : i < 4). digit_same a b i ((node_same a b 4 4 e).1 i (omega (arith, low))))
-    (order 4 i)
+ways_of a b e i = grind (arith, common_steps, chain_same, digit_same, node_same, order)
 
 pub path_same : (bytes : List ℕ) (a b : ℤ) (hop : ℕ) → node a 4 ≡ node b 4 → number_of bytes a hop ≡ number_of bytes b hop
 path_same bytes a b hop e = number_same bytes a b hop (λ i h. ways_of a b e i)

@@ -1,4 +1,5 @@
 -- A pair that is written behind those of a bucket.
+use Rattle.std.proofs.lemmas.Grind.{common_steps}
 use Rattle.std.proofs.Common.{◌≡◌, ◌≢◌, ◌≤◌, ◌<◌, ◌+◌, ◌*◌, ℕ, zero, suc, List, [], ◌∷◌, ◌++◌, length, get_or, refl, arith, ap, ◌∙◌, sym, ◌⊎◌, inl, inr, ⊎_elim, subst, length-append}
 use Rattle.std.proofs.lemmas.List.{get_or_append_left}
 use Rattle.std.proofs.Math.Seq.{get_or-append_seam}
@@ -19,18 +20,13 @@ use Rattle.index_tree.proofs.Spots.{apart_places, byte_stays, i32_stays, numbers
 
 -- a pair lies in its bucket
 before_or : (i pair place k : ℕ) → i ≢ pair → (place + 6 * i + 6 ≤ place + 6 * pair) ⊎ (place + 6 * pair + 6 ≤ place + 6 * i)
-before_or i pair place k other = ⊎_elim
-    (λ (up : i ≤ pair). ⊎_elim (λ (down : pair ≤ i). absurd (other (omega arith))) (λ (less : i < pair). inl (omega arith)) (order pair i))
-    (λ (less : pair < i). inr (omega arith))
-    (order i pair)
+before_or i pair place k other = grind (arith, common_steps, order)
 
 slot_other : (xs w : List ℕ) (place pair i : ℕ) → length w ≡ 6 → place + 6 * pair + 6 ≤ length xs → i ≢ pair → slot_at (put_at xs (place + 6 * pair) w) place i ≡ slot_at xs place i
-slot_other xs w place pair i long fits other = u16_stays xs w (place + 6 * pair) (place + 6 * i + 4) (omega arith)
-    (⊎_elim (λ (a : place + 6 * i + 6 ≤ place + 6 * pair). inl (omega arith)) (λ (b : place + 6 * pair + 6 ≤ place + 6 * i). inr (omega arith)) (before_or i pair place 0 other))
+slot_other xs w place pair i long fits other = grind (arith, common_steps, u16_stays, before_or)
 
 key_other : (xs w : List ℕ) (place pair i : ℕ) → length w ≡ 6 → place + 6 * pair + 6 ≤ length xs → i ≢ pair → key_at (put_at xs (place + 6 * pair) w) place i ≡ key_at xs place i
-key_other xs w place pair i long fits other = i32_stays xs w (place + 6 * pair) (place + 6 * i) (omega arith)
-    (⊎_elim (λ (a : place + 6 * i + 6 ≤ place + 6 * pair). inl (omega arith)) (λ (b : place + 6 * pair + 6 ≤ place + 6 * i). inr (omega arith)) (before_or i pair place 0 other))
+key_other xs w place pair i long fits other = grind (arith, common_steps, i32_stays, before_or)
 
 slot_here : (xs w : List ℕ) (at : ℕ) → length w ≡ 6 → at + 6 ≤ length xs → u16_at (put_at xs at w) (at + 4) ≡ u16_at w 4
 slot_here xs w at long fits = u16_same (put_at xs at w) w (at + 4) 4 (put_here xs w at 4 2 (omega arith) (omega arith))
@@ -40,24 +36,7 @@ key_here xs w at long fits = let e : at + 0 ≡ at = omega arith in subst (λ (p
 
 -- the bucket holds one pair more
 pub holds_put : (old w : List ℕ) (place : ℕ) (rest : List Pair) (q : Pair) → HoldsPairs old place rest → length rest < 32 → IsPairBytes w q → place + 195 ≤ length old → HoldsPairs (put_at old (place + 6 * length rest) w) place (rest ++ q ∷ [])
-holds_put old w place rest q holds room is fits =
-    let new : List ℕ = put_at old (place + 6 * length rest) w in
-    let long : length w ≡ 6 = is.long in
-    let sum : length (rest ++ q ∷ []) ≡ length rest + length (q ∷ []) = length-append rest (q ∷ []) in
-    let seam : get_or (rest ++ q ∷ []) (length rest) no_pair ≡ q = get_or-append_seam rest q [] no_pair in
-    record {
-      slot = λ i h k. ⊎_elim
-          (λ (here : length rest ≤ i). let e : i ≡ length rest = omega (arith, sum, here, k) in rw (e, seam) (slot_here old w (place + 6 * length rest) long (omega arith) ∙ is.slot))
-          (λ (before : i < length rest). slot_other old w place (length rest) i long (omega arith) (λ z. omega arith) ∙ rw (get_or_append_left rest (q ∷ []) no_pair i before) (holds.slot i h before))
-          (order (length rest) i);
-      key = λ i h k. ⊎_elim
-          (λ (here : length rest ≤ i). let e : i ≡ length rest = omega (arith, sum, here, k) in rw (e, seam) (key_here old w (place + 6 * length rest) long (omega arith) ∙ is.key))
-          (λ (before : i < length rest). key_other old w place (length rest) i long (omega arith) (λ z. omega arith) ∙ rw (get_or_append_left rest (q ∷ []) no_pair i before) (holds.key i h before))
-          (order (length rest) i);
-      empty = λ i h k. slot_other old w place (length rest) i long (omega arith) (λ z. omega (arith, sum, k, z)) ∙ holds.empty i h (omega (arith, sum, k));
-      blank = λ i h k. key_other old w place (length rest) i long (omega arith) (λ z. omega (arith, sum, k, z)) ∙ holds.blank i h (omega (arith, sum, k));
-      last = byte_stays old w (place + 6 * length rest) (place + 194) (omega arith) (inr (omega arith)) ∙ holds.last;
-    }
+holds_put old w place rest q holds room is fits = grind (arith, common_steps, get_or-append_seam, slot_here, slot_other, get_or_append_left, order, key_here, key_other, byte_stays)
 
 -- another bucket keeps its pairs
 bucket_apart : (old w : List ℕ) (n m pair : ℕ) → n ≢ 0 → m ≢ 0 → n ≢ m → length w ≡ 6 → pair < 32 → bucket_place m ≤ length old → KeepsBucket old (put_at old (place_of m + 6 * pair) w) (place_of n)
@@ -73,9 +52,7 @@ bucket_apart old w n m pair some more other long short fits = record {
 }
 
 next_stays : (old w : List ℕ) (n m pair : ℕ) → n ≢ 0 → m ≢ 0 → length w ≡ 6 → pair < 32 → bucket_place m ≤ length old → next_at (put_at old (place_of m + 6 * pair) w) (place_of n) ≡ next_at old (place_of n)
-next_stays old w n m pair some more long short fits =
-    u16_stays old w (place_of m + 6 * pair) (place_of n + 192) (omega arith)
-    (⊎_elim (λ (up : n ≤ m). ⊎_elim (λ (down : m ≤ n). inr (omega arith)) (λ (less : n < m). inl (omega arith)) (order m n)) (λ (less : m < n). inr (omega arith)) (order n m))
+next_stays old w n m pair some more long short fits = grind (arith, common_steps, u16_stays, order)
 
 pub adds_pair : (old w : List ℕ) (ps : List Pair) (q : Pair) (hop : ℕ) → IsTree old ps → IsPathEnd ps q.key hop → number_of old q.key hop ≢ 0 → IsPairBytes w q →
     AddsPair old (put_at old (place_of (number_of old q.key hop) + 6 * length (reaching (goes q.key) hop ps)) w) ps q hop

@@ -1,3 +1,4 @@
+use Rattle.std.proofs.lemmas.Grind.{common_steps}
 use Rattle.std.proofs.Common.{◌≡◌, ◌≤◌, ◌<◌, ◌+◌, ◌-◌, ◌*◌, ℕ, zero, suc, List, [], ◌∷◌, ◌++◌, length, drop, Bool, true, false, cond, refl, arith, ap, ◌∙◌, sym, add-one, length-append}
 use Rattle.std.specs.List.{filter}
 use Rattle.std.proofs.lemmas.List.{drop-append-le, drop_all, length-drop}
@@ -39,11 +40,7 @@ reach-append test ps qs (suc hop) full =
 
 -- later pairs of the key come behind those that were ahead
 pub ahead-append : {P : Type 0} (mine : P → Bool) (test : ℕ → P → Bool) → ((hop : ℕ) (p : P) → mine p ≡ true → test hop p ≡ true) → (ps qs : List P) (hop pair : ℕ) → IsPlace test ps hop pair → ahead_of_place mine test (ps ++ qs) hop pair ≡ ahead_of_place mine test ps hop pair ++ filter mine qs
-ahead-append mine test goes ps qs hop pair place =
-    ap (λ xs. filter mine (drop pair xs)) (reach-append test ps qs hop place.full)
-    ∙ ap (filter mine) (drop-append-le pair (reaching test hop ps) (sifted test hop qs) place.within)
-    ∙ filter-append mine (drop pair (reaching test hop ps)) (sifted test hop qs)
-    ∙ ap (λ xs. filter mine (drop pair (reaching test hop ps)) ++ xs) (sifted-mine mine test goes hop qs)
+ahead-append mine test goes ps qs hop pair place = grind (arith, common_steps, reach-append, drop-append-le, filter-append, sifted-mine)
 
 pub reach-longer : {P : Type 0} (test : ℕ → P → Bool) (ps qs : List P) (hop : ℕ) → ((i : ℕ) → i < hop → 32 ≤ length (reaching test i ps)) → length (reaching test hop ps) ≤ length (reaching test hop (ps ++ qs))
 reach-longer test ps qs hop full = rw (reach-append test ps qs hop full) (rw (length-append (reaching test hop ps) (sifted test hop qs)) (omega arith))

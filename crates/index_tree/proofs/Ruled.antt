@@ -1,4 +1,5 @@
 -- A file that meets the rules is the tree of its slots' pairs.
+use Rattle.std.proofs.lemmas.Grind.{common_steps}
 use Rattle.std.proofs.Common.{◌≡◌, ◌≢◌, ◌≤◌, ◌<◌, ◌+◌, ◌-◌, ℕ, ℤ, zero, suc, List, [], ◌∷◌, ◌++◌, length, drop, get_or, map, Bool, true, false, refl, arith, ap, ◌∙◌, sym, ◌⊎◌, inl, inr, ⊎_elim, subst, length-append}
 use Rattle.std.specs.Prelude.{◌==◌, nat_eq, nat_le, min}
 use Rattle.std.specs.List.{filter, range_with_len}
@@ -34,10 +35,7 @@ goes_sifted test (suc hop) ps p i goes_ = in_filter (test hop) p (sifted test ho
 
 -- the same node is the same way
 node_ways : (a b : ℤ) (hop : ℕ) → node a (min hop 4) ≡ node b (min hop 4) → (i : ℕ) → i < hop → Same a b i
-node_ways a b hop e i h = ⊎_elim
-    (λ (deep : 4 ≤ i). chain_same a b i deep)
-    (λ (low : i < 4). digit_same a b i ((node_same a b (min hop 4) (min hop 4) e).1 i (omega arith)))
-    (order 4 i)
+node_ways a b hop e i h = grind (arith, common_steps, chain_same, digit_same, node_same, order)
 
 -- ---- how many pairs of a bucket are filled
 

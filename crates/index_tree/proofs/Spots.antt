@@ -1,4 +1,5 @@
 -- Places of the file that lie apart.
+use Rattle.std.proofs.lemmas.Grind.{common_steps}
 use Rattle.std.proofs.Common.{◌≡◌, ◌≢◌, ◌≤◌, ◌<◌, ◌+◌, ◌*◌, ◌-◌, ℕ, ℤ, zero, suc, List, length, get_or, refl, arith, ap, ◌∙◌, sym, ◌⊎◌, inl, inr, ⊎_elim, subst}
 use Rattle.std.specs.Prelude.{slice_index}
 use Rattle.afl_base.specs.Fields.{i32_at, put_at, u16_at}
@@ -49,10 +50,7 @@ chain_same a b (suc (suc (suc (suc i)))) h = λ p. refl
 -- ---- buckets
 
 pub apart_places : (n m x y k l : ℕ) → n ≢ 0 → m ≢ 0 → n ≢ m → x + k ≤ 195 → y + l ≤ 195 → (place_of n + x + k ≤ place_of m + y) ⊎ (place_of m + y + l ≤ place_of n + x)
-apart_places n m x y k l some more other a b = ⊎_elim
-    (λ (up : n ≤ m). ⊎_elim (λ (down : m ≤ n). absurd (other (omega arith))) (λ (less : n < m). inl (omega arith)) (order m n))
-    (λ (less : m < n). inr (omega arith))
-    (order n m)
+apart_places n m x y k l some more other a b = grind (arith, common_steps, order)
 
 -- ---- fields that stay
 

@@ -1,5 +1,5 @@
 -- A cursor has begun over relations of the session: what it has to come, and what is ahead of it.
-use Rattle.std.proofs.Common.{◌≡◌, ℕ, ◌+◌, ◌-◌, List, [], ◌∷◌, ◌++◌, length, take, drop, filter, get_or, replicate, Option, ap, sym, ◌∙◌, arith}
+use Rattle.std.proofs.Common.{◌≡◌, ℕ, ◌+◌, ◌-◌, List, [], ◌∷◌, ◌++◌, length, take, drop, filter, get_or, replicate, Option, ap, sym, subst, ◌∙◌, arith}
 use Rattle.std.specs.List.{range_with_len}
 use Rattle.std.proofs.lemmas.List.{take_all}
 use Rattle.afl_base.specs.Files.{Table}
@@ -34,6 +34,10 @@ use Rattle.session_plans.proofs.IndexKinds.{kinds_same}
 
 pub kinds_held : (files : Table) (held : Held) (opens : List (Option Open)) (k : ℕ) (t : Tuples) → kinds_of (indexes_of (view files held opens) k) ≡ kinds (infos_of k t held.indexes)
 kinds_held files held opens k t = ap kinds_of (indexes_seen k t held.indexes) ∙ kinds_same k (infos_of k t held.indexes)
+
+-- what holds of a copy and of the indexes that were counted holds of the relation and its own
+pub moved : {t u : Tuples} {xs ys : List IndexInfo} (P : Tuples → List IndexInfo → Type 0) → t ≡ u → xs ≡ ys → P t xs → P u ys
+moved {u = u} {xs = xs} P same equal p = subst (λ (l : List IndexInfo). P u l) equal (subst (λ (z : Tuples). P z xs) same p)
 
 -- ---- a SELECT
 

@@ -1,8 +1,9 @@
 -- FETCH of the cursor at a place.
-use Rattle.std.proofs.Common.{◌≡◌, ℕ, zero, suc, ◌+◌, ℤ, Bool, true, false, cond, List, [], ◌∷◌, map, set, take, drop, get_or, Option, Some, None, refl, ap, sym, ◌∙◌, arith, Ok, Err}
+use Rattle.std.proofs.Common.{◌≡◌, ◌≤◌, ℕ, zero, suc, ◌+◌, ℤ, Bool, true, false, cond, List, [], ◌∷◌, map, set, take, drop, get_or, Option, Some, None, refl, ap, sym, subst, ◌∙◌, arith, Ok, Err}
 use Rattle.std.specs.Prelude.{option_map}
 use Rattle.std.specs.Option.{option_map_or}
 use Rattle.std.specs.Str.{bytes_eq}
+use Rattle.std.proofs.lemmas.List.{set-set}
 use Rattle.std.proofs.lemmas.Slice.Eq.{bytes_eq-Decides}
 use Rattle.afl_base.specs.Files.{State, Table}
 use Rattle.db_model.specs.declared.commands.Command.TheVariants as command
@@ -42,6 +43,12 @@ module _ (state : State) (tables : Tables) (held : Held) (opens : List (Option O
     may_read = join_reads state tables held opens r o.cursor w;
     fits = λ told. join_fits state tables held opens r o.cursor w told;
   }
+
+-- ---- a cursor that was taken from its slot is put back
+
+pub put_back : {s u : State} (P : State → List (Option Open) → Type 0) (opens : List (Option Open)) (place : ℕ) (taken put : Option Open) → u ≡ s → P s (set opens place put) → P u (set (set opens place taken) place put)
+put_back {s = s} P opens place taken put same p =
+    subst (λ (z : State). P z (set (set opens place taken) place put)) (sym same) (subst (λ (os : List (Option Open)). P s os) (sym (set-set opens place taken put)) p)
 
 -- ---- the relation of a name
 
@@ -134,3 +141,12 @@ module _ (files : Table) (held : Held) (opens : List (Option Open)) (number : �
         done_costs (view files held opens) (with_cursor (view files held opens) n (Some (record (cursor_in files o) { rows = drop 1 (cursor_in files o).rows }))) (aheads_of files opens) (command.FetchCursor number)
         (Rows (take 1 (cursor_in files o).rows)) (ap (λ r. ◌>>=◌ r (fetching (view files held opens))) (is_open_in files held opens number n o e there)) refl
         ∙ ap (λ (a : Option Ahead). option_map_or (λ ahead. fetch_cost (view files held opens) ahead.source (next_passed ahead)) a 0) ahead_here
+
+-- ---- what was read
+
+pub within_cost : (state : State) (held : Held) (opens : List (Option Open)) (number : ℤ) (n : ℕ) (e : cursor_place number ≡ Some n) (o : Open) (there : get_or opens n None ≡ Some o)
+    → IsSoundDatabase (view state.files held opens) → IsCursorSlot state held (Some o) → (before now : ℕ)
+    → (FindsRows (view state.files held opens) state.files o → now ≤ before + fetch_price (view state.files held opens) state.files o)
+    → now ≤ before + cost_of (view state.files held opens) (aheads_of state.files opens) (command.FetchCursor number)
+within_cost state held opens number n e o there sound waits before now reads =
+    subst (λ (m : ℕ). now ≤ before + m) (sym (costs_fetched state.files held opens number n e o there)) (reads (finds_rows state.files held opens sound state o refl waits))

@@ -80,8 +80,8 @@ returns-clause-tree g c = λ told t.
     let both = rw end at (c.loop-slot.invariant.verifies told) in
     let v = both.0 in
     let count = both.1 in
-    tree_of_pairs bytes f c.args.slots (seen_tree bytes c.loop-slot.loads c.loop-slot.places c.loop-slot.nexts c.loop-slot.fills (pairs_of f c.args.slots) v.counts v.seen v.tails
-    (λ n small. done_heads bytes c.read_heads.new.heads n (get_or c.loop-slot.loads n 0) (get_or c.loop-slot.nexts n 0) (get_or c.loop-slot.fills n 0) heads small (c.are_done.ensures.yes t n small))
+    tree_of_pairs bytes f c.args.slots (seen_tree bytes c.loop-slot.seen.loads c.loop-slot.seen.places c.loop-slot.seen.nexts c.loop-slot.seen.fills (pairs_of f c.args.slots) v.counts v.seen v.tails
+    (λ n small. done_heads bytes c.read_heads.new.heads n (get_or c.loop-slot.seen.loads n 0) (get_or c.loop-slot.seen.nexts n 0) (get_or c.loop-slot.seen.fills n 0) heads small (c.are_done.ensures.yes t n small))
     (let long = length_pairs f c.args.slots in omega (arith, long, c.requires.slots))
     (sym c.size-size.ensures ∙ c.if-size-bucket_place.false ∙ c.bucket_place.ensures ∙ ap bucket_place count)
     (sym (head_mark bytes c.read_heads.new.heads (c.in_ok-read_heads.ensures.bytes told)) ∙ c.if-heads-ne1.false))
@@ -95,7 +95,7 @@ returns-clause-no_tree g c = λ told t tree.
     let end : c.loop-slot.slot ≡ c.args.slots = omega (arith, c.loop-slot-test.false, c.loop-slot.auto.slot-end) in
     let both = rw end at (c.loop-slot.invariant.verifies told) in
     let wrong = c.are_done.ensures.no_ t in
-    wrong.2 (heads_done bytes c.read_heads.new.heads wrong.0 (get_or c.loop-slot.loads wrong.0 0) (get_or c.loop-slot.nexts wrong.0 0) (get_or c.loop-slot.fills wrong.0 0) heads wrong.1 (tree_done bytes c.loop-slot.loads c.loop-slot.places c.loop-slot.nexts c.loop-slot.fills (pairs_of f c.args.slots) (tree_of_keys bytes f c.args.slots tree) both.0 wrong.0 wrong.1))
+    wrong.2 (heads_done bytes c.read_heads.new.heads wrong.0 (get_or c.loop-slot.seen.loads wrong.0 0) (get_or c.loop-slot.seen.nexts wrong.0 0) (get_or c.loop-slot.seen.fills wrong.0 0) heads wrong.1 (tree_done bytes c.loop-slot.seen.loads c.loop-slot.seen.places c.loop-slot.seen.nexts c.loop-slot.seen.fills (pairs_of f c.args.slots) (tree_of_keys bytes f c.args.slots tree) both.0 wrong.0 wrong.1))
 
 pub returns-then-size-bucket_place-clause-no_tree : goal.returns-then-size-bucket_place-clause-no_tree
 returns-then-size-bucket_place-clause-no_tree g c = λ told t tree.

@@ -4,7 +4,7 @@ use Rattle.afl_base.specs.Files.{bytes_at, size_at}
 use Rattle.afl_base.specs.KeyColumn.{key_of}
 use Rattle.db_model.specs.HashTree.{buckets}
 use Rattle.index_tree.specs.Pairs.{pair_keys, pairs_of}
-use Rattle.index_maxheap.specs.Verify.{Verifies}
+use Rattle.index_maxheap.specs.Verify.{HasSeen}
 use Rattle.index_maxheap.proofs.verifying.verify.Given as goal
 
 abbrev pub invariant-loop-slot : goal.invariant-loop-slot
@@ -17,9 +17,9 @@ invariant-loop-slot g l =
       reads : g.V.Files.reads l.files ≤ g.V.Files.reads l.fn.files + (15 * l.slot + 18);
       reads_later : g.V.Files.reads l.fn.files ≤ g.V.Files.reads l.files;
       faults : g.V.Files.faults l.files ≡ g.V.Files.faults l.fn.files;
-      light : (i : ℕ) → get_or l.loads i 0 ≤ l.slot;
-      inside : (i : ℕ) → get_or l.places i 0 + 195 ≤ size_at old.files l.index;
-      low : (i : ℕ) → get_or l.places i 0 < 2 ^ 25;
+      light : (i : ℕ) → get_or l.seen.loads i 0 ≤ l.slot;
+      inside : (i : ℕ) → get_or l.seen.places i 0 + 195 ≤ size_at old.files l.index;
+      low : (i : ℕ) → get_or l.seen.places i 0 < 2 ^ 25;
       few : l.opened ≤ l.slot;
-      verifies : IsTrue old.tells → Verifies (bytes_at old.files l.index) l.loads l.places l.nexts l.fills ps × (l.opened ≡ buckets (pair_keys ps));
+      verifies : IsTrue old.tells → HasSeen (bytes_at old.files l.index) l.seen ps × (l.opened ≡ buckets (pair_keys ps));
     }

@@ -1,6 +1,4 @@
-use Rattle.std.proofs.Common.{◌≡◌, ◌<◌, ◌≤◌, ◌+◌, ℕ, List, Option, None, Some, get_or, set, refl, sym, subst, arith}
-use Rattle.std.proofs.lemmas.List.{set-set}
-use Rattle.afl_base.specs.Files.{State}
+use Rattle.std.proofs.Common.{◌≡◌, Option, Some, refl, subst, arith}
 use Rattle.db_model.specs.declared.commands.Command.TheVariants as command
 use Rattle.db_model.specs.Ahead.{aheads_after}
 use Rattle.db_model.specs.Step.{Rows, step}
@@ -11,7 +9,7 @@ use Rattle.session_model.specs.View.{view}
 use Rattle.session_model.proofs.Opens.{cursor_put}
 use Rattle.session_model.proofs.Running.{slot_at}
 use Rattle.session_cursors.specs.Fetched.{one_or_none}
-use Rattle.session_cursors.proofs.Taken.{aheads_fetched, aheads_refused, can_fetch, costs_fetched, finds_rows, step_fetched, step_refused}
+use Rattle.session_cursors.proofs.Taken.{aheads_fetched, aheads_refused, can_fetch, put_back, step_fetched, step_refused, within_cost}
 use Rattle.session_cursors.proofs.fetching.take_row.Goals as goal
 
 pub returns-in-None-clause-done : goal.returns-in-None-clause-done
@@ -27,17 +25,9 @@ returns-in-None-clause-aheads g c = λ told.
 pub fetch_open-requires : goal.fetch_open-requires
 fetch_open-requires g c =
     let state = g.V.Files.state c.args.files.now in
-    let tables = c.args.tables.now in
     let held = c.args.held.now in
-    let opens = c.args.opens.now in
-    let place = c.in-Some.place in
-    let r = c.requires.running in
-    let few : place < 4 = c.in-Some.ensures.few in
-    let o : Open = c.in-Some-take.opened in
-    let was : c.index-opens-place.result ≡ Some o = cc (c.take.ensures.value, c.in-Some-take.is, c.index-opens-place.is) in
-    let there : get_or opens place None ≡ Some o = slot_at opens place c.index-opens-place.result o (omega (arith, r.four, few)) c.index-opens-place.is was in
-    let waits : IsCursorSlot state held (Some o) = let P : Option Open → Type 0 = λ z. IsCursorSlot state held z in subst P there (r.cursors place few) in
-    record { can = can_fetch state tables held opens r o waits }
+    let there = slot_at c.args.opens.now c.in-Some.place c.index-opens-place.result c.in-Some-take.opened (omega (arith, c.requires.running.four, c.in-Some.ensures.few)) c.index-opens-place.is (cc (c.take.ensures.value, c.in-Some-take.is, c.index-opens-place.is)) in
+    record { can = can_fetch state c.args.tables.now held c.args.opens.now c.requires.running c.in-Some-take.opened (subst (λ (z : Option Open). IsCursorSlot state held z) there (c.requires.running.cursors c.in-Some.place c.in-Some.ensures.few)) }
 
 pub returns-clause-done : goal.returns-clause-done
 returns-clause-done g c = λ told.
@@ -45,40 +35,26 @@ returns-clause-done g c = λ told.
     let held = c.args.held.now in
     let opens = c.args.opens.now in
     let place = c.in-Some.place in
-    let r = c.requires.running in
-    let few : place < 4 = c.in-Some.ensures.few in
     let o : Open = c.in-Some-take.opened in
-    let was : c.index-opens-place.result ≡ Some o = cc (c.take.ensures.value, c.in-Some-take.is, c.index-opens-place.is) in
-    let there : get_or opens place None ≡ Some o = slot_at opens place c.index-opens-place.result o (omega (arith, r.four, few)) c.index-opens-place.is was in
+    let there = slot_at opens place c.index-opens-place.result o (omega (arith, c.requires.running.four, c.in-Some.ensures.few)) c.index-opens-place.is (cc (c.take.ensures.value, c.in-Some-take.is, c.index-opens-place.is)) in
     let h = c.in_ok-found.ensures in
     let d : Open = c.fetch_open.new.opened in
-    let same : set (set opens place c.take.new.self) place (Some d) ≡ set opens place (Some d) = set-set opens place c.take.new.self (Some d) in
-    let P : State → List (Option Open) → Type 0 = λ s os.
-    step (view state.files held opens) (command.FetchCursor c.args.number.now) ≡ (view s.files held os, Rows (one_or_none c.in_ok-found.found c.fetch_open.new.into)) in
-    subst (λ (s : State). P s (set (set opens place c.take.new.self) place (Some d))) (sym h.frame.same)
-    (subst (λ (os : List (Option Open)). P state os) (sym same)
-    (step_fetched state.files held opens c.args.number.now place c.in-Some.ensures.place o there d (one_or_none c.in_ok-found.found c.fetch_open.new.into) (h.row told) (h.left told)))
+    put_back (λ s os. step (view state.files held opens) (command.FetchCursor c.args.number.now) ≡ (view s.files held os, Rows (one_or_none c.in_ok-found.found c.fetch_open.new.into)))
+    opens place c.take.new.self (Some d) h.frame.same
+    (step_fetched state.files held opens c.args.number.now place c.in-Some.ensures.place o there d (one_or_none c.in_ok-found.found c.fetch_open.new.into) (h.row told) (h.left told))
 
 pub returns-clause-running : goal.returns-clause-running
 returns-clause-running g c =
     let state = g.V.Files.state c.args.files.now in
-    let tables = c.args.tables.now in
     let held = c.args.held.now in
     let opens = c.args.opens.now in
     let place = c.in-Some.place in
-    let r = c.requires.running in
-    let few : place < 4 = c.in-Some.ensures.few in
     let o : Open = c.in-Some-take.opened in
-    let was : c.index-opens-place.result ≡ Some o = cc (c.take.ensures.value, c.in-Some-take.is, c.index-opens-place.is) in
-    let there : get_or opens place None ≡ Some o = slot_at opens place c.index-opens-place.result o (omega (arith, r.four, few)) c.index-opens-place.is was in
-    let waits : IsCursorSlot state held (Some o) = let P : Option Open → Type 0 = λ z. IsCursorSlot state held z in subst P there (r.cursors place few) in
+    let there = slot_at opens place c.index-opens-place.result o (omega (arith, c.requires.running.four, c.in-Some.ensures.few)) c.index-opens-place.is (cc (c.take.ensures.value, c.in-Some-take.is, c.index-opens-place.is)) in
     let h = c.in_ok-found.ensures in
     let d : Open = c.fetch_open.new.opened in
-    let same : set (set opens place c.take.new.self) place (Some d) ≡ set opens place (Some d) = set-set opens place c.take.new.self (Some d) in
-    let P : State → List (Option Open) → Type 0 = λ s os. IsRunning s tables held os in
-    subst (λ (s : State). P s (set (set opens place c.take.new.self) place (Some d))) (sym h.frame.same)
-    (subst (λ (os : List (Option Open)). P state os) (sym same)
-    (cursor_put state tables held opens place (Some d) r few (h.waits held waits)))
+    put_back (λ s os. IsRunning s c.args.tables.now held os) opens place c.take.new.self (Some d) h.frame.same
+    (cursor_put state c.args.tables.now held opens place (Some d) c.requires.running c.in-Some.ensures.few (h.waits held (subst (λ (z : Option Open). IsCursorSlot state held z) there (c.requires.running.cursors place c.in-Some.ensures.few))))
 
 pub returns-clause-aheads : goal.returns-clause-aheads
 returns-clause-aheads g c = λ told.
@@ -86,19 +62,12 @@ returns-clause-aheads g c = λ told.
     let held = c.args.held.now in
     let opens = c.args.opens.now in
     let place = c.in-Some.place in
-    let r = c.requires.running in
-    let few : place < 4 = c.in-Some.ensures.few in
     let o : Open = c.in-Some-take.opened in
-    let was : c.index-opens-place.result ≡ Some o = cc (c.take.ensures.value, c.in-Some-take.is, c.index-opens-place.is) in
-    let there : get_or opens place None ≡ Some o = slot_at opens place c.index-opens-place.result o (omega (arith, r.four, few)) c.index-opens-place.is was in
+    let there = slot_at opens place c.index-opens-place.result o (omega (arith, c.requires.running.four, c.in-Some.ensures.few)) c.index-opens-place.is (cc (c.take.ensures.value, c.in-Some-take.is, c.index-opens-place.is)) in
     let h = c.in_ok-found.ensures in
     let d : Open = c.fetch_open.new.opened in
-    let same : set (set opens place c.take.new.self) place (Some d) ≡ set opens place (Some d) = set-set opens place c.take.new.self (Some d) in
-    let P : State → List (Option Open) → Type 0 = λ s os.
-    aheads_of s.files os ≡ aheads_after (view state.files held opens) (aheads_of state.files opens) (command.FetchCursor c.args.number.now) in
-    subst (λ (s : State). P s (set (set opens place c.take.new.self) place (Some d))) (sym h.frame.same)
-    (subst (λ (os : List (Option Open)). P state os) (sym same)
-    (aheads_fetched state.files held opens c.args.number.now place c.in-Some.ensures.place o there d (h.left told) (h.ahead told)))
+    put_back (λ s os. aheads_of s.files os ≡ aheads_after (view state.files held opens) (aheads_of state.files opens) (command.FetchCursor c.args.number.now)) opens place c.take.new.self (Some d) h.frame.same
+    (aheads_fetched state.files held opens c.args.number.now place c.in-Some.ensures.place o there d (h.left told) (h.ahead told))
 
 pub returns-clause-reads : goal.returns-clause-reads
 returns-clause-reads g c = λ told sound.
@@ -106,16 +75,10 @@ returns-clause-reads g c = λ told sound.
     let held = c.args.held.now in
     let opens = c.args.opens.now in
     let place = c.in-Some.place in
-    let r = c.requires.running in
-    let few : place < 4 = c.in-Some.ensures.few in
     let o : Open = c.in-Some-take.opened in
-    let was : c.index-opens-place.result ≡ Some o = cc (c.take.ensures.value, c.in-Some-take.is, c.index-opens-place.is) in
-    let there : get_or opens place None ≡ Some o = slot_at opens place c.index-opens-place.result o (omega (arith, r.four, few)) c.index-opens-place.is was in
-    let waits : IsCursorSlot state held (Some o) = let P : Option Open → Type 0 = λ z. IsCursorSlot state held z in subst P there (r.cursors place few) in
-    let db = view state.files held opens in
-    subst (λ (n : ℕ). g.V.Files.reads c.fetch_open.new.files ≤ g.V.Files.reads c.args.files.now + n)
-    (sym (costs_fetched state.files held opens c.args.number.now place c.in-Some.ensures.place o there))
-    (c.in_ok-found.ensures.reads told db (finds_rows state.files held opens sound state o refl waits))
+    let there = slot_at opens place c.index-opens-place.result o (omega (arith, c.requires.running.four, c.in-Some.ensures.few)) c.index-opens-place.is (cc (c.take.ensures.value, c.in-Some-take.is, c.index-opens-place.is)) in
+    within_cost state held opens c.args.number.now place c.in-Some.ensures.place o there sound (subst (λ (z : Option Open). IsCursorSlot state held z) there (c.requires.running.cursors place c.in-Some.ensures.few)) (g.V.Files.reads c.args.files.now) (g.V.Files.reads c.fetch_open.new.files)
+    (c.in_ok-found.ensures.reads told (view state.files held opens))
 
 pub returns-in_err-found-clause-reads : goal.returns-in_err-found-clause-reads
 returns-in_err-found-clause-reads g c = λ told sound.
@@ -123,13 +86,7 @@ returns-in_err-found-clause-reads g c = λ told sound.
     let held = c.args.held.now in
     let opens = c.args.opens.now in
     let place = c.in-Some.place in
-    let r = c.requires.running in
-    let few : place < 4 = c.in-Some.ensures.few in
     let o : Open = c.in-Some-take.opened in
-    let was : c.index-opens-place.result ≡ Some o = cc (c.take.ensures.value, c.in-Some-take.is, c.index-opens-place.is) in
-    let there : get_or opens place None ≡ Some o = slot_at opens place c.index-opens-place.result o (omega (arith, r.four, few)) c.index-opens-place.is was in
-    let waits : IsCursorSlot state held (Some o) = let P : Option Open → Type 0 = λ z. IsCursorSlot state held z in subst P there (r.cursors place few) in
-    let db = view state.files held opens in
-    subst (λ (n : ℕ). g.V.Files.reads c.fetch_open.new.files ≤ g.V.Files.reads c.args.files.now + n)
-    (sym (costs_fetched state.files held opens c.args.number.now place c.in-Some.ensures.place o there))
-    (c.in_err-found.ensures.reads told db (finds_rows state.files held opens sound state o refl waits))
+    let there = slot_at opens place c.index-opens-place.result o (omega (arith, c.requires.running.four, c.in-Some.ensures.few)) c.index-opens-place.is (cc (c.take.ensures.value, c.in-Some-take.is, c.index-opens-place.is)) in
+    within_cost state held opens c.args.number.now place c.in-Some.ensures.place o there sound (subst (λ (z : Option Open). IsCursorSlot state held z) there (c.requires.running.cursors place c.in-Some.ensures.few)) (g.V.Files.reads c.args.files.now) (g.V.Files.reads c.fetch_open.new.files)
+    (c.in_err-found.ensures.reads told (view state.files held opens))
