@@ -41,3 +41,8 @@ def test_a_name_of_no_life_of_the_bench_is_an_error():
     ended = subprocess.run([f"{ROOT}/bench/life", "nosuchlife"], stdout=subprocess.PIPE, stderr=subprocess.PIPE)
     said = b"there is no nosuchlife; the lives are days-3-11, " in ended.stderr
     same((ended.returncode, ended.stdout, said), (1, b"", True), "its end")
+
+
+def test_a_seed_of_the_bench_that_is_no_number_is_an_error():
+    ended = subprocess.run([f"{ROOT}/bench/cuts", "nosuchseed"], stdout=subprocess.PIPE, stderr=subprocess.PIPE)
+    same((ended.returncode, ended.stdout, b"nosuchseed" in ended.stderr), (2, b"", True), "its end")
