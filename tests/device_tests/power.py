@@ -7,7 +7,19 @@ import time
 
 from .common import begin, boot, build, cut_off, image_of, linux, processors, same, write
 
-INDEXED = b"CREATE RELATION n; CREATE ATTRIBUTE v DOMAIN LONG IN n; CREATE INDEX n.v TYPE MAXHEAP;"
+KINDS = ("MAXHEAP", "INLINE", "MEMHASH", "MAXHEAP", "MAXHEAP", "INLINE", "MEMHASH", "MAXHEAP")
+
+
+def made(relations):
+    """The commands that make so many relations, each with an index."""
+    script = "".join(f"CREATE RELATION n{it}; CREATE ATTRIBUTE v DOMAIN LONG IN n{it}; CREATE INDEX n{it}.v TYPE {KINDS[it]};"
+        for it in range(relations))
+    return script.encode()
+
+
+def inserts(first, many, relations):
+    """Rows from a number on, each in the next relation."""
+    return "".join(f"INSERT ({it}) INTO n{it % relations};\n" for it in range(first, first + many)).encode()
 
 
 def acknowledged(begun, many):
@@ -21,10 +33,10 @@ def acknowledged(begun, many):
     return got
 
 
-def load_and_cut(board, rows, many):
+def load_and_cut(board, rows, many, relations):
     """Inserts rows until this many are acknowledged, cuts the power during the next ones, and returns how many were acknowledged."""
     # before the board begins, which reads it at once
-    write("script", linux.inserts(rows, many + 400))
+    write("script", inserts(rows, many + 400, relations))
     begun = begin(board, "run", "chip", "script", stdin=subprocess.DEVNULL)
     got = acknowledged(begun, many)
     time.sleep(random.uniform(0, 0.02))
@@ -32,32 +44,36 @@ def load_and_cut(board, rows, many):
     return (got + begun.stdout.read()).count(b"ok\n")
 
 
-def rows_on(chip):
+def rows_on(chip, relations):
+    """How many rows there are: each relation has those whose turn it was."""
     write("image", image_of(chip))
-    rows = linux.run("run", "image", "-", script=b"SELECT v FROM n;").decode().splitlines()[:-1]
-    same(rows, [str(it) for it in range(len(rows))], "the rows")
+    script = "".join(f"SELECT v FROM n{it};" for it in range(relations)).encode()
+    lines = linux.run("run", "image", "-", script=script).decode().splitlines()
+    rows = sorted(int(it) for it in lines if not it.startswith("rows "))
+    same(rows, list(range(len(rows))), "the rows")
     return len(rows)
 
 
-def cut_and_repair(board, times):
-    boot(board, "run", "chip", "-", script=INDEXED)
+def cut_and_repair(board, times, relations):
+    boot(board, "run", "chip", "-", script=made(relations))
     rows, mended = 0, 0
     for _ in range(times):
-        written = rows + load_and_cut(board, rows, random.randrange(1, 40))
+        written = rows + load_and_cut(board, rows, random.randrange(1, 40), relations)
         foretold = boot(board, "check", "chip").decode().splitlines()
         said = boot(board, "repair", "chip").decode().splitlines()
         same(["repaired" if it == "to be repaired" else it for it in foretold], said, "what a check foretold")
         mended += said != ["sound"]
-        rows = rows_on("chip")
+        rows = rows_on("chip", relations)
         if not written <= rows <= written + 1:
             raise AssertionError(f"{written} rows were acknowledged, and {rows} are there; repair said {said}")
     print(f"of {times} boards {board} that lost their power {mended} were to be repaired; {rows} rows are there")
-    same(boot(board, "run", "chip", "-", script=b"SELECT COUNT(v) FROM n WHERE v >= 0;"), b"%d\nrows 1\n" % rows, "the rows by the index")
+    counted = boot(board, "run", "chip", "-", script=b"".join(b"SELECT COUNT(v) FROM n%d WHERE v >= 0;" % it for it in range(relations)))
+    same(sum(map(int, counted.split(b"\nrows 1\n")[:-1])), rows, "the rows by the indexes")
 
 
-def test_boards_that_lose_their_power_are_repaired():
-    cut_and_repair(build(processors(("aarch64",))[0]), 20)
+def test_boards_of_eight_relations_that_lose_their_power_are_repaired():
+    cut_and_repair(build(processors(("aarch64",))[0]), 12, 8)
 
 
 def test_a_hundred_microcontrollers_that_lose_their_power_are_repaired():
-    cut_and_repair(build(processors(("thumbv7em",))[0]), 100)
+    cut_and_repair(build(processors(("thumbv7em",))[0]), 100, 1)
