@@ -8,7 +8,7 @@ use Rattle.std.proofs.lemmas.List.{get_or-set_other, get_or-set_same}
 use Rattle.std.proofs.Math.Nat.{div-mul-le_self, lt-div-mul-add, mul-le-mul_right}
 use Rattle.aggregate.specs.declared.search.Search.{Search}
 use Rattle.aggregate.specs.Order.{below, up_to}
-use Rattle.aggregate.specs.Search.{IsCounted, IsInPart, IsOutside, Seeks, begins, width}
+use Rattle.aggregate.specs.Search.{IsCounted, IsInPart, IsOutside, Seeks, begins, part_width}
 use Rattle.aggregate.proofs.Rising.{below-append, below-next, below-order, is_lt, not_lt}
 
 -- ---- parts
@@ -16,13 +16,13 @@ use Rattle.aggregate.proofs.Rising.{below-append, below-next, below-order, is_lt
 -- a later part begins behind an earlier one
 begins-order : (s : Search) (j k : ℕ) → j ≤ k → begins s j ≤ℤ begins s k
 begins-order s j k h =
-    let m : j * width s ≤ k * width s = mul-le-mul_right (width s) h in
+    let m : j * part_width s ≤ k * part_width s = mul-le-mul_right (part_width s) h in
     omega (arith, ints, m)
 
 -- and right behind the one before it
 begins-next : (s : Search) (k : ℕ) → begins s (k + 1) ≡ (begins s k +ℤ pos (s.span / 16)) +ℤ pos 1
 begins-next s k =
-    let m : (k + 1) * width s ≡ k * width s + width s = grind arith in
+    let m : (k + 1) * part_width s ≡ k * part_width s + part_width s = grind arith in
     omega (arith, ints, m)
 
 pub is-above : (z : ℤ) (n : ℕ) → FitsUnsignedBits 32 z → n ≡ nat_abs z → z ≡ pos n
@@ -33,20 +33,20 @@ not-above : (z : ℤ) → (FitsUnsignedBits 32 z → ⊥) → (z <ℤ pos 0) ⊎
 not-above (pos m) h = ⊎_elim (λ (l : m < 2 ^ 32). absurd (h l)) (λ (l : 2 ^ 32 ≤ m). inr (omega (arith, ints, l))) (cases_lt m (2 ^ 32))
 not-above (negsuc m) h = inl (omega (arith, ints))
 
-pub part-in : (s : Search) (x : ℤ) (above : ℕ) → x ≡ s.lo +ℤ pos above → above / width s < 16 → IsInPart s (above / width s) x
+pub part-in : (s : Search) (x : ℤ) (above : ℕ) → x ≡ s.lo +ℤ pos above → above / part_width s < 16 → IsInPart s (above / part_width s) x
 part-in s x above e few =
-    let low : above / width s * width s ≤ above = div-mul-le_self above (width s) in
-    let high : above < above / width s * width s + width s = lt-div-mul-add (omega arith) in
-    let next = begins-next s (above / width s) in
+    let low : above / part_width s * part_width s ≤ above = div-mul-le_self above (part_width s) in
+    let high : above < above / part_width s * part_width s + part_width s = lt-div-mul-add (omega arith) in
+    let next = begins-next s (above / part_width s) in
     record { few = few; from = omega (arith, ints, low, e); to = omega (arith, ints, high, next, e) }
 
-pub part-behind : (s : Search) (x : ℤ) (above : ℕ) → x ≡ s.lo +ℤ pos above → 16 ≤ above / width s → IsOutside s x
+pub part-behind : (s : Search) (x : ℤ) (above : ℕ) → x ≡ s.lo +ℤ pos above → 16 ≤ above / part_width s → IsOutside s x
 part-behind s x above e many =
-    let low : above / width s * width s ≤ above = div-mul-le_self above (width s) in
-    let all : 16 * width s ≤ above / width s * width s = mul-le-mul_right (width s) many in
+    let low : above / part_width s * part_width s ≤ above = div-mul-le_self above (part_width s) in
+    let all : 16 * part_width s ≤ above / part_width s * part_width s = mul-le-mul_right (part_width s) many in
     inr (omega (arith, ints, low, all, e))
 
-pub part-out : (s : Search) (x : ℤ) → width s ≤ 2 ^ 28 → (FitsUnsignedBits 32 (x -ℤ s.lo) → ⊥) → IsOutside s x
+pub part-out : (s : Search) (x : ℤ) → part_width s ≤ 2 ^ 28 → (FitsUnsignedBits 32 (x -ℤ s.lo) → ⊥) → IsOutside s x
 part-out s x small h =
     ⊎_elim (λ (l : (x -ℤ s.lo) <ℤ pos 0). inl (omega (arith, ints, l))) (λ (l : pos (2 ^ 32) ≤ℤ (x -ℤ s.lo)). inr (omega (arith, ints, l, small))) (not-above (x -ℤ s.lo) h)
 
@@ -112,30 +112,30 @@ nothing-counted s e k few = let zero_is = ap (λ (xs : List ℕ). get_or xs k 0)
 -- it looks in the part that was chosen
 pub Seeks-narrowed : (s now : Search) (all : List ℤ) (place part from : ℕ) → Seeks all all place s → part < 16
     → below (begins s part) all + now.place ≡ below s.lo all + s.place → (part < 15 → below s.lo all + s.place < below (begins s (part + 1)) all)
-    → from ≡ min (part * width s) s.span → now.lo ≡ s.lo +ℤ pos from → now.span ≡ min (s.span - from) (s.span / 16) → now.counts ≡ replicate 16 0 → Seeks all [] place now
+    → from ≡ min (part * part_width s) s.span → now.lo ≡ s.lo +ℤ pos from → now.span ≡ min (s.span - from) (s.span / 16) → now.counts ≡ replicate 16 0 → Seeks all [] place now
 Seeks-narrowed s now all place part from k few placed inside from_is lo_is span_is zeros =
-    let starts : part * width s ≤ s.span =
+    let starts : part * part_width s ≤ s.span =
     ⊎_elim
-    (λ (l : s.span < part * width s).
+    (λ (l : s.span < part * part_width s).
     let order : below ((s.lo +ℤ pos s.span) +ℤ pos 1) all ≤ below (begins s part) all = below-order _ _ all (omega (arith, ints, l)) in
     absurd (omega (arith, order, below-next (s.lo +ℤ pos s.span) all, k.lowest, k.highest, placed)))
-    (λ (l : part * width s ≤ s.span). l)
-    (cases_lt s.span (part * width s)) in
+    (λ (l : part * part_width s ≤ s.span). l)
+    (cases_lt s.span (part * part_width s)) in
     let at : now.lo ≡ begins s part = lo_is ∙ ap (λ n. s.lo +ℤ pos n) (omega (arith, from_is, starts)) in
     record {
       lowest = ap (λ m. below m all + now.place) at ∙ placed ∙ k.lowest;
       highest =
           ⊎_elim
-          (λ (l : s.span / 16 < s.span - part * width s).
-          let early : part < 15 = ⊎_elim (λ (b : part < 15). b) (λ (b : 15 ≤ part). let m : 15 * width s ≤ part * width s = mul-le-mul_right (width s) b in absurd (omega (arith, l, m))) (cases_lt part 15) in
+          (λ (l : s.span / 16 < s.span - part * part_width s).
+          let early : part < 15 = ⊎_elim (λ (b : part < 15). b) (λ (b : 15 ≤ part). let m : 15 * part_width s ≤ part * part_width s = mul-le-mul_right (part_width s) b in absurd (omega (arith, l, m))) (cases_lt part 15) in
           let end : now.lo +ℤ pos now.span ≡ begins s part +ℤ pos (s.span / 16) = omega (arith, ints, at, span_is, from_is, starts, l) in
           subst (λ m. place < up_to m all) (sym end)
           (let i = inside early in
           let e = ap (λ m. below m all) (begins-next s part) ∙ below-next (begins s part +ℤ pos (s.span / 16)) all in
           omega (arith, i, e, k.lowest)))
-          (λ (l : s.span - part * width s ≤ s.span / 16).
+          (λ (l : s.span - part * part_width s ≤ s.span / 16).
           let end : now.lo +ℤ pos now.span ≡ s.lo +ℤ pos s.span = omega (arith, ints, at, span_is, from_is, starts, l) in
           subst (λ m. place < up_to m all) (sym end) k.highest)
-          (cases_lt (s.span / 16) (s.span - part * width s));
+          (cases_lt (s.span / 16) (s.span - part * part_width s));
       counted = nothing-counted now zeros;
     }

@@ -38,7 +38,7 @@ IsSoundStage agg p n (Gathering s) = (p ≡ 0) × IsSummary agg n s
 IsSoundStage agg p n (Searching s) = IsSearch agg p n s
 IsSoundStage agg p n (Done _) = Unit {0}
 
-pub record IsSound (agg : Agg) (p n : ℕ) (stage : Stage) : Type 0 where
+pub record IsRightStage (agg : Agg) (p n : ℕ) (stage : Stage) : Type 0 where
   pub few : p ≤ 9
   pub pushed : n ≤ 32768
   pub stage_is : IsSoundStage agg p n stage

@@ -4,12 +4,12 @@ use Rattle.aggregate.specs.declared.search.Search.{Search}
 use Rattle.aggregate.specs.Order.{up_to, below}
 
 -- the width of a part: sixteen parts reach past the greatest that it may be
-abbrev pub width : Search → ℕ
-width s = s.span / 16 + 1
+abbrev pub part_width : Search → ℕ
+part_width s = s.span / 16 + 1
 
 -- where a part begins
 abbrev pub begins : Search → ℕ → ℤ
-begins s part = s.lo +ℤ pos (part * width s)
+begins s part = s.lo +ℤ pos (part * part_width s)
 
 -- a number lies in a part
 pub record IsInPart (s : Search) (part : ℕ) (number : ℤ) : Type 0 where

@@ -26,14 +26,14 @@ pub struct Fold {
 }
 
 impl Model for Fold {
-    ghost use Rattle.aggregate.specs.Folding.{Folding, IsSound};
+    ghost use Rattle.aggregate.specs.Folding.{Folding, IsRightStage};
 
     ghost Value = { Folding };
 
     ghost view = { λ f.
         record { agg = f.agg; passes = f.passes; pushed = f.pushed; stage = f.stage } };
 
-    ghost invariant = { λ f. IsSound f.agg f.passes f.pushed f.stage };
+    ghost invariant = { λ f. IsRightStage f.agg f.passes f.pushed f.stage };
 
     ghost inverse = { λ f.
         record { agg = f.agg; passes = f.passes; pushed = f.pushed; stage = f.stage } };

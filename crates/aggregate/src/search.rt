@@ -5,7 +5,7 @@
 ghost use Rattle.std.specs.Prelude.{◌≡◌, ◌+◌, ◌*◌, ◌<◌, ◌≤◌, ◌^◌, ℕ, ℤ, pos, ◌+ℤ◌, ◌-ℤ◌, ◌≤ℤ◌, List, [], ◌∷◌, ◌++◌, get_or, length, replicate, FitsSigned, MatchOption};
 ghost use Rattle.std.specs.Int.{w64};
 ghost use Rattle.aggregate.specs.Order.{below};
-ghost use Rattle.aggregate.specs.Search.{IsInPart, IsOutside, IsCounted, Seeks, begins, width};
+ghost use Rattle.aggregate.specs.Search.{IsInPart, IsOutside, IsCounted, Seeks, begins, part_width};
 
 /// A search for the number at a place in rising order. The numbers that it may be lie in sixteen
 /// parts. A pass counts the numbers in each part, and the next looks in one of them alone.
@@ -24,7 +24,7 @@ pub struct Search {
 impl Search {
     // The width of a part.
     fn width(&self) -> u32
-        ensures value { result ≡ width self.now }
+        ensures value { result ≡ part_width self.now }
         ensures few { result ≤ 2 ^ 28 }
     {
         self.span / 16 + 1

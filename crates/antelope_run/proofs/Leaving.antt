@@ -1,7 +1,6 @@
 -- From what a session did to what a run leaves behind, by the form of its words.
 use Rattle.std.proofs.Common.{◌≡◌, ◌≢◌, ◌⊎◌, inl, inr, true, false, ℕ, ◌/◌, List, [], ◌++◌, length, Option, refl, ap, subst, sym, ◌∙◌}
 use Rattle.std.specs.Prelude.{⊤, IsTrue, Result, Ok, Err}
-use Rattle.std.specs.Io.KnownBytes.{append_known}
 use Rattle.db_model.specs.declared.commands.Command.{Command}
 use Rattle.db_model.specs.declared.refusals.Refusal.TheVariants as no
 use Rattle.db_model.specs.Between.{IsBetween}
@@ -33,7 +32,7 @@ use Rattle.antelope_run.specs.declared.came.Came.TheVariants.{Opened}
 use Rattle.antelope_run.specs.Does.{DoesForm, Generates, OnlyTells, TellsOn, WritesText, Wrote}
 use Rattle.antelope_run.specs.Follows.{WritesBehind, is_look}
 use Rattle.antelope_run.specs.SessionImage.{IsImageOf}
-use Rattle.antelope_run.specs.Endings.{BrokenOff, CommandsLeave, InputLeaves, LeavesBehind, LeavesImage, LineBrokenOff, LineUnsaid, TellsText, TellsLess, TextLeaves, dumped_text, nothing_yet, planned_text, summed_from}
+use Rattle.antelope_run.specs.Endings.{BrokenOff, CommandsLeave, InputLeaves, LeavesBehind, LeavesImage, LineBrokenOff, LineUnsaid, TextLeaves, dumped_text, planned_text, summed_from}
 use Rattle.antelope_run.specs.Promise.{TakesInput}
 use Rattle.antelope_run.specs.Steps.{BreaksBy}
 use Rattle.antelope_run.proofs.Behind.{wrote_on}
@@ -92,7 +91,7 @@ module _ (a b : Standing) (image image_now : List ℕ) (before now : Option (Lis
     unfolding stops_at
     found_at f = record { front = f.stops.front; n = f.n; stops = stops_at f.n f.stops; written = f.held }
 
-    space_unsaid_at : sums.LeftSpaceUnsaid limits commands a.database b.database a.held b.held → SpaceUnsaid (summed_from a.database) nothing_yet commands Old New
+    space_unsaid_at : sums.LeftSpaceUnsaid limits commands a.database b.database a.held b.held → SpaceUnsaid (summed_from a.database) (λ front. []) commands Old New
     unfolding stops_at
     space_unsaid_at f = record {
       front = f.stops.front;
@@ -109,9 +108,9 @@ module _ (a b : Standing) (image image_now : List ℕ) (before now : Option (Lis
     }
 
     unsaid_by : (sums.LeftLineUnsaid commands a.database b.database a.held b.held ⊎ sums.LeftSpaceUnsaid limits commands a.database b.database a.held b.held)
-        → (LineUnsaid commands Old New ⊎ SpaceUnsaid (summed_from (base image)) nothing_yet commands Old New)
+        → (LineUnsaid commands Old New ⊎ SpaceUnsaid (summed_from (base image)) (λ front. []) commands Old New)
     unsaid_by (inl s) = inl (line_unsaid s)
-    unsaid_by (inr s) = inr (subst (λ (db : Database). SpaceUnsaid (summed_from db) nothing_yet commands Old New) start (space_unsaid_at s))
+    unsaid_by (inr s) = inr (subst (λ (db : Database). SpaceUnsaid (summed_from db) (λ front. []) commands Old New) start (space_unsaid_at s))
 
   by_gen : (seed count : ℕ) (result : Result ⊤ InputEnding) → Back result → TellsOn a b result → Generates a b limits (first_commands seed count) result → CommandsLeave (first_commands seed count) Old New result
   by_gen seed count (Ok done) back tells g =
@@ -162,31 +161,22 @@ module _ (a b : Standing) (image image_now : List ℕ) (before now : Option (Lis
   abbrev pub Stays : Type 0
   Stays = image_now ≡ image
 
-  module _ (text : List ℕ → List ℕ) (unread : now ≡ before) where
-    told_all : (image_now ≡ image) → b.held ≡ append_known a.held (text image) → TellsText text Old New
-    told_all same held = record { leaves = record { same = same; unread = unread }; written = held }
-
-    told_less : (image_now ≡ image) → WroteLess a.held b.held (text image) → TellsLess text Old New
-    told_less same w = record { leaves = record { same = same; unread = unread }; written = less_of (text image) w }
-
   by_text : (text : List ℕ → List ℕ) → now ≡ before → (result : Result ⊤ InputEnding) → Stays → WritesText a b (text image) result → TextLeaves text Old New result
-  by_text text unread (Ok done) stays w = told_all text unread stays w
+  by_text text unread (Ok done) stays w = (record { same = stays; unread = unread }, w)
   by_text text unread (Err Input) stays w = absurd w
   by_text text unread (Err Long) stays w = absurd w
   by_text text unread (Err (Early Space)) stays w = absurd w
   by_text text unread (Err (Early Flash)) stays w = (record { same = stays; unread = unread }, record { part = w.written; rest = w.left; split = w.whole; held = w.held })
-  by_text text unread (Err (Early Sink)) stays w = told_less text unread stays w
+  by_text text unread (Err (Early Sink)) stays w = (record { same = stays; unread = unread }, less_of (text image) w)
 
   by_look : (held : Option (List ℕ)) → now ≡ before → (result : Result ⊤ InputEnding) → Stays → Wrote a.held held (look_text image) result → LeavesBehind Look Old (world image_now now held) result
-  by_look held unread (Ok done) stays w = record { leaves = record { same = stays; unread = unread }; written = w }
+  by_look held unread (Ok done) stays w = (record { same = stays; unread = unread }, w)
   by_look held unread (Err Input) stays w = absurd w
   by_look held unread (Err Long) stays w = absurd w
   by_look held unread (Err (Early Space)) stays w = absurd w
   by_look held unread (Err (Early Flash)) stays w = (record { same = stays; unread = unread }, record { part = w.written; rest = w.left; split = w.whole; held = w.held })
-  by_look held unread (Err (Early Sink)) stays w = record {
-    leaves = record { same = stays; unread = unread };
-    written = wrote_within [] (look_text image) (look_text image) a.held a.held held (sym (append_known-nil a.held)) w refl;
-  }
+  by_look held unread (Err (Early Sink)) stays w =
+      (record { same = stays; unread = unread }, wrote_within [] (look_text image) (look_text image) a.held a.held held (sym (append_known-nil a.held)) w refl)
 
   -- ---- each form, and what follows once the flash is handed back
 

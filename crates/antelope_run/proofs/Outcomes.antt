@@ -19,7 +19,8 @@ use Rattle.antelope_run.specs.declared.came.Came.TheVariants.{Opened, Refused, U
 use Rattle.run_words.specs.declared.words.Form.{Form}
 use Rattle.run_words.specs.declared.words.Form.TheVariants.{Run, Gen, Plan, Serve, Dump, Look}
 use Rattle.antelope_run.specs.Endings.{LeavesBehind, summed_from}
-use Rattle.antelope_run.specs.Promise.{CausedBy, ComesTo, Counts, EndsBrokenOff, HasSpace, IsWithinLimit, LeftBy, NothingFailed, TakenBy, TakesInput, status_by}
+use Rattle.antelope_run.specs.Promise.{CausedBy, ComesTo, EndsBrokenOff, HasSpace, IsWithinLimit, LeftBy, NothingFailed, TakenBy, TakesInput, status_by}
+use Rattle.run_model.specs.Moments.{Counts}
 use Rattle.antelope_run.specs.Steps.{BreaksBy, HasCameCause, OnOpened, OnUnopened, ReachesBy}
 use Rattle.antelope_run.proofs.Fronts.{has_fronts}
 use Rattle.antelope_run.proofs.Space.{input_has_space, stops_nowhere}

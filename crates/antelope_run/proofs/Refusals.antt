@@ -11,7 +11,8 @@ use Rattle.image_model.specs.Images.{IsFirstBroken}
 use Rattle.antelope_run.specs.declared.came.Came.{Came}
 use Rattle.antelope_run.specs.declared.came.Came.TheVariants.{Refused, Unsaid}
 use Rattle.run_words.specs.declared.words.Form.{Form}
-use Rattle.antelope_run.specs.Promise.{ComesTo, Counts}
+use Rattle.antelope_run.specs.Promise.{ComesTo}
+use Rattle.run_model.specs.Moments.{Counts}
 use Rattle.antelope_run.specs.Steps.{BreaksBy, HasCameCause, OnOpened, OnUnopened}
 use Rattle.antelope_run.proofs.Finished.{wrote_within}
 

@@ -43,20 +43,14 @@ InputLeaves line talk old new (Err (Early Sink)) = InputUnsaid line talk old new
 
 -- ---- generated commands
 
-abbrev pub IsItself : Command → Command → Type 0
-IsItself entry command = entry ≡ command
-
 -- the relational machine over given commands, which writes one line behind all of them
 abbrev pub summed_from : Database → Machine Command
 summed_from db = record {
   written = summed db;
   last = after_all db;
-  Asks = IsItself;
+  Asks = λ entry command. entry ≡ command;
   refused = λ entry n. refusal_text (no.Space n);
 }
-
-abbrev pub nothing_yet : List Command → List ℕ
-nothing_yet front = []
 
 -- the line was not wholly written
 pub record LineUnsaid (commands : List Command) (old new : World) : Type 0 where
@@ -69,7 +63,7 @@ CommandsLeave commands old new (Ok done) = CarriedOut (summed_from (base old.ima
 CommandsLeave commands old new (Err (Early Space)) = FoundNoSpace (summed_from (base old.image)) commands old new
 CommandsLeave commands old new (Err (Early Flash)) = new.held ≡ old.held
 CommandsLeave commands old new (Err (Early Sink)) =
-    LineUnsaid commands old new ⊎ SpaceUnsaid (summed_from (base old.image)) nothing_yet commands old new
+    LineUnsaid commands old new ⊎ SpaceUnsaid (summed_from (base old.image)) (λ front. []) commands old new
 CommandsLeave commands old new (Err Input) = ⊥
 CommandsLeave commands old new (Err Long) = ⊥
 
@@ -87,20 +81,10 @@ pub record LeavesImage (old new : World) : Type 0 where
   pub same : new.image ≡ old.image
   pub unread : new.left ≡ old.left
 
--- and this was written
-pub record TellsText (text : List ℕ → List ℕ) (old new : World) : Type 0 where
-  pub leaves : LeavesImage old new
-  pub written : new.held ≡ append_known old.held (text old.image)
-
--- or less than that
-pub record TellsLess (text : List ℕ → List ℕ) (old new : World) : Type 0 where
-  pub leaves : LeavesImage old new
-  pub written : WroteWithin [] (text old.image) old.held new.held
-
 abbrev pub TextLeaves : (List ℕ → List ℕ) → World → World → Result ⊤ InputEnding → Type 0
-TextLeaves text old new (Ok done) = TellsText text old new
+TextLeaves text old new (Ok done) = LeavesImage old new × (new.held ≡ append_known old.held (text old.image))
 TextLeaves text old new (Err (Early Flash)) = LeavesImage old new × WroteInFront (text old.image) old.held new.held
-TextLeaves text old new (Err (Early Sink)) = TellsLess text old new
+TextLeaves text old new (Err (Early Sink)) = LeavesImage old new × WroteWithin [] (text old.image) old.held new.held
 TextLeaves text old new (Err (Early Space)) = ⊥
 TextLeaves text old new (Err Input) = ⊥
 TextLeaves text old new (Err Long) = ⊥

@@ -3,7 +3,6 @@ use Rattle.std.specs.Prelude.{◌≡◌, ◌≢◌, ◌⊎◌, ⊤, ℕ, ◌+◌
 use Rattle.std.specs.Io.KnownBytes.{IsAtEnd}
 use Rattle.afl_base.specs.declared.flash.Flash.{Ghosts as FlashOf}
 use Rattle.afl_base.specs.declared.stream.Sink.{Ghosts as SinkOf}
-use Rattle.afl_base.specs.declared.stream.Source.{Ghosts as SourceOf}
 use Rattle.afl_base.specs.Causes.{Rose}
 use Rattle.db_model.specs.declared.commands.Command.{Command}
 use Rattle.db_model.specs.declared.refusals.Refusal.{Refusal}
@@ -14,10 +13,9 @@ use Rattle.dump.specs.Parts.{slots_of_all}
 use Rattle.run_input.specs.declared.ending.Ending.TheVariants.{Space, Flash, Sink}
 use Rattle.run_input.specs.declared.ending.InputEnding.{InputEnding}
 use Rattle.run_input.specs.declared.ending.InputEnding.TheVariants.{Input, Long, Early}
-use Rattle.run_model.specs.Line.{Line}
-use Rattle.run_model.specs.Runs.{CameToLimit, HasEnough, ReadsWithin, RefusalUnsaid, Refuses, World, machine_from, world}
+use Rattle.run_model.specs.Moments.{Counts, Moment}
+use Rattle.run_model.specs.Runs.{CameToLimit, HasEnough, InputHasEnough, ReadsWithin, RefusalUnsaid, Refuses, World}
 use Rattle.run_model.specs.Scripts.{script_line, script_talk}
-use Rattle.run_model.specs.Talk.{Talk}
 use Rattle.run_words.specs.declared.words.Form.{Form}
 use Rattle.run_words.specs.declared.words.Form.TheVariants.{Run, Gen, Plan, Serve, Dump, Look}
 use Rattle.run_frames.specs.Frames.{frame_line}
@@ -26,30 +24,6 @@ use Rattle.image_model.specs.Images.{IsSound, base}
 use Rattle.antelope_run.specs.declared.came.Came.{Came}
 use Rattle.antelope_run.specs.declared.came.Came.TheVariants.{Opened, Refused, Unsaid, Failed}
 use Rattle.antelope_run.specs.Endings.{BrokenOff, LeavesBehind, LeavesImage, OnReader, summed_from}
-
--- ---- before and after a run
-
--- how many faults the input, the flash and the sink have counted
-pub record Counts : Type 0 where
-  pub input : ℕ
-  pub flash : ℕ
-  pub sink : ℕ
-
-abbrev pub counted : {F S K : Type 0} → FlashOf F → SourceOf S → SinkOf K → F → S → K → Counts
-counted f s k flash input out = record { input = s.faults input; flash = f.faults flash; sink = k.faults out }
-
--- what there is, what was counted, and how many pages were read so far
-pub record Moment : Type 0 where
-  pub world : World
-  pub counts : Counts
-  pub reads : ℕ
-
-abbrev pub moment : {F S K : Type 0} → FlashOf F → SourceOf S → SinkOf K → F → S → K → Moment
-moment f s k flash input out = record {
-  world = world (f.image flash) (s.left input) (k.held out);
-  counts = counted f s k flash input out;
-  reads = f.reads flash;
-}
 
 -- ---- what a run came to, and its status
 
@@ -127,11 +101,6 @@ pub record NothingFailed (old new : Counts) : Type 0 where
   pub flash : Rose old.flash new.flash → ⊥
   pub sink : Rose old.sink new.sink → ⊥
 
--- before each command of an input the flash has enough sectors
-abbrev pub InputHasEnough : {E : Type 0} → Line E → Talk E → World → Type 0
-InputHasEnough line talk old = (text : List ℕ) → old.left ≡ Some text
-    → HasEnough (machine_from talk (base old.image)) (length old.image / 4096) (line.all text)
-
 -- the flash has enough sectors before each command, where the input is told
 abbrev pub HasSpace : Form → World → Type 0
 HasSpace Run old = (old.left ≢ None) × (read : List ℕ → Result Command Refusal) × IsReader read × InputHasEnough script_line (script_talk read) old
@@ -143,36 +112,30 @@ HasSpace Look old = ⊤
 
 -- ---- how many pages are read at most
 
--- to judge and open an image
-abbrev pub OpensWithin : World → ℕ → Type 0
-OpensWithin old n = n ≤ opening_cost (base old.image) (length old.image / 256)
+-- to judge and open an image; and to read its rows, six more for each slot of a relation
+abbrev pub opening_reads : World → ℕ
+opening_reads old = opening_cost (base old.image) (length old.image / 256)
 
--- to dump its database, six more for each slot of a relation
-abbrev pub DumpsWithin : World → ℕ → Type 0
-DumpsWithin old n = n ≤ opening_cost (base old.image) (length old.image / 256) + 6 * slots_of_all (base old.image).relations
+abbrev pub scanning_reads : World → ℕ
+scanning_reads old = opening_reads old + 6 * slots_of_all (base old.image).relations
 
--- to look at it, that and one for each page
-abbrev pub LooksWithin : World → ℕ → Type 0
-LooksWithin old n =
-    n ≤ opening_cost (base old.image) (length old.image / 256) + 6 * slots_of_all (base old.image).relations + length old.image / 256
-
--- by an input whose entries only read, so many more; for generated commands, which change files, there is no bound
+-- an input whose entries only read, so many more; for generated commands, which change files, there is no bound
 abbrev pub CarriesWithin : Form → World → ℕ → Type 0
 CarriesWithin Run old n = OnReader (λ read. ReadsWithin script_line (script_talk read) old n)
 CarriesWithin Serve old n = OnReader (λ read. ReadsWithin frame_line (serve_talk read) old n)
 CarriesWithin (Gen seed count) old n = ⊤
-CarriesWithin (Plan rows) old n = OpensWithin old n
-CarriesWithin Dump old n = DumpsWithin old n
-CarriesWithin Look old n = LooksWithin old n
+CarriesWithin (Plan rows) old n = n ≤ opening_reads old
+CarriesWithin Dump old n = n ≤ scanning_reads old
+CarriesWithin Look old n = n ≤ scanning_reads old + length old.image / 256
 
 -- an image that is refused is judged alone
 pub record ReadsAtMost (form : Form) (old : World) (n : ℕ) : Type 0 where
-  pub refused : (IsSound old.image → ⊥) → OpensWithin old n
+  pub refused : (IsSound old.image → ⊥) → n ≤ opening_reads old
   pub carried : CarriesWithin form old n
 
 -- ---- all of it, of a flash that tells its image
 
-pub record IsRun (form : Form) (cuts : Bool) (status : ℕ) (old new : Moment) : Type 0 where
+pub record KeepsPromise (form : Form) (cuts : Bool) (status : ℕ) (old new : Moment) : Type 0 where
   pub told : LeftBy status form old.world new.world
   pub broken_off : IsTrue cuts → status ≡ 4 → EndsBrokenOff form old.world new.world
   pub unsound : (IsSound old.world.image → ⊥) → (status ≡ 4) ⊎ (status ≡ 5) ⊎ (status ≡ 6)

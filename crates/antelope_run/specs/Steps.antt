@@ -11,7 +11,8 @@ use Rattle.image_model.specs.Images.{IsSound}
 use Rattle.antelope_run.specs.declared.came.Came.{Came}
 use Rattle.antelope_run.specs.declared.came.Came.TheVariants.{Opened, Unsaid, Failed}
 use Rattle.antelope_run.specs.Endings.{BrokenOff, LeavesImage}
-use Rattle.antelope_run.specs.Promise.{Counts, TakesInput}
+use Rattle.antelope_run.specs.Promise.{TakesInput}
+use Rattle.run_model.specs.Moments.{Counts}
 
 -- where failures are cuts: what is left where the flash failed
 abbrev pub BreaksBy : Form → World → World → Came → Type 0

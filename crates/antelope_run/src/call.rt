@@ -9,7 +9,8 @@ ghost use Rattle.reply_text.specs.WroteLess.{WroteLess};
 ghost use Rattle.run_model.specs.Runs.{image_line, world};
 ghost use Rattle.run_words.specs.declared.words.Form.{Form};
 ghost use Rattle.run_words.specs.Words.{HasFewCommands, form_of};
-ghost use Rattle.antelope_run.specs.Promise.{BorrowsTheSame, CausedBy, ComesTo, IsRun, IsStatus, ReadsAtMost, TakenBy, TakesInput, counted, moment, status_by};
+ghost use Rattle.antelope_run.specs.Promise.{BorrowsTheSame, CausedBy, ComesTo, KeepsPromise, IsStatus, ReadsAtMost, TakenBy, TakesInput, status_by};
+ghost use Rattle.run_model.specs.Moments.{counts_of, moment};
 ghost use Rattle.antelope_run.specs.Steps.{BreaksBy, HasCameCause, OnOpened, OnUnopened, ReachesBy};
 ghost use Rattle.antelope_run.specs.declared.came.Came.TheVariants as AnyCame;
 
@@ -49,12 +50,12 @@ pub fn top<F: Flash, S: Source, K: Sink>(
     ensures words { (result.0 ≡ 1) ↔ (form_of words.now ≡ None) }
     ensures words_leave { result.0 ≡ 1
         → (script.new ≡ script.old) × (out.new ≡ out.old) × (result.1 ≡ flash) }
-    ensures caused { CausedBy result.0 (counted F.Flash S.Source K.Sink flash script.old out.old)
-        (counted F.Flash S.Source K.Sink result.1 script.new out.new) }
+    ensures caused { CausedBy result.0 (counts_of F.Flash S.Source K.Sink flash script.old out.old)
+        (counts_of F.Flash S.Source K.Sink result.1 script.new out.new) }
     ensures taken { (form : Form) → form_of words.now ≡ Some form
         → TakenBy S.left result.0 form script.old script.new }
     ensures kept { BorrowsTheSame F.Flash K.Sink flash result.1 out.old out.new }
-    ensures runs { IsTrue F.tells → (form : Form) → form_of words.now ≡ Some form → IsRun form F.cuts result.0
+    ensures runs { IsTrue F.tells → (form : Form) → form_of words.now ≡ Some form → KeepsPromise form F.cuts result.0
         (moment F.Flash S.Source K.Sink flash script.old out.old)
         (moment F.Flash S.Source K.Sink result.1 script.new out.new) }
 {
@@ -77,11 +78,11 @@ pub fn carry<F: Flash, S: Source, K: Sink>(
 ) -> u8
     requires commands { HasFewCommands form }
     ensures only { IsStatus result × (result ≢ 1) }
-    ensures caused { CausedBy result (counted F.Flash S.Source K.Sink flash.old input.old out.old)
-        (counted F.Flash S.Source K.Sink flash.new input.new out.new) }
+    ensures caused { CausedBy result (counts_of F.Flash S.Source K.Sink flash.old input.old out.old)
+        (counts_of F.Flash S.Source K.Sink flash.new input.new out.new) }
     ensures taken { TakenBy S.left result form input.old input.new }
     ensures kept { BorrowsTheSame F.Flash K.Sink flash.old flash.new out.old out.new }
-    ensures runs { IsTrue F.tells → IsRun form F.cuts result
+    ensures runs { IsTrue F.tells → KeepsPromise form F.cuts result
         (moment F.Flash S.Source K.Sink flash.old input.old out.old)
         (moment F.Flash S.Source K.Sink flash.new input.new out.new) }
 {
@@ -126,8 +127,8 @@ fn run_form<F: Flash, S: Source, K: Sink>(
     ensures reads { let old = moment F.Flash S.Source K.Sink flash input.old out.old in IsTrue F.tells
         → ReadsAtMost form old.world (F.reads result - old.reads) }
     ensures kept { BorrowsTheSame F.Flash K.Sink flash result out.old out.new }
-    ensures cause { HasCameCause (counted F.Flash S.Source K.Sink flash input.old out.old)
-        (counted F.Flash S.Source K.Sink result input.new out.new) came.new }
+    ensures cause { HasCameCause (counts_of F.Flash S.Source K.Sink flash input.old out.old)
+        (counts_of F.Flash S.Source K.Sink result input.new out.new) came.new }
 {
     mounted_files_are_the_images();
     let sectors = flash.sectors();

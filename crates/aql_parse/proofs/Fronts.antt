@@ -18,7 +18,7 @@ use Rattle.db_model.specs.declared.tokens.Token.{Token}
 use Rattle.db_model.specs.declared.tokens.Token.TheVariants.{Word, Name, Number, Quoted, Sign}
 use Rattle.db_model.specs.declared.values.Value.{Value}
 use Rattle.db_model.specs.declared.values.Value.TheVariants as value
-use Rattle.aql_parse.specs.Built.{at_most_8, insert_into, values_in}
+use Rattle.aql_parse.specs.Built.{at_most_8, built_insert, values_in}
 use Rattle.aql_parse.specs.Inserts.{value_token, AreTokens, AreInFront, KeepsValue, KeepsNegative, KeepsList, KeepsInsert, negated}
 use Rattle.aql_parse.proofs.Collecting.{within}
 use Rattle.aql_parse.proofs.Cutting.{token_next, white_to_end, same_items, same_whole}
@@ -196,19 +196,19 @@ values_kept (value.Number z ∷ vs) = ap (λ x. value.Number z ∷ x) (values_ke
 values_kept (value.Text bytes ∷ vs) = ap (λ x. value.Text bytes ∷ x) (values_kept vs)
 
 -- the INSERT that is made of them
-pub insert_made : (bs r : List ℕ) (kept : List Token) (k : KeepsInsert kept r bs) → insert_into kept r ≡ Some (command.Insert k.values r)
+pub insert_made : (bs r : List ℕ) (kept : List Token) (k : KeepsInsert kept r bs) → built_insert kept r ≡ Some (command.Insert k.values r)
 insert_made bs r kept k =
     let vs = k.values in
     ap (λ ts. option_map (λ values. command.Insert values r) (at_most_8 (values_in false ts))) k.kept_are
     ∙ ap (λ xs. option_map (λ values. command.Insert values r) (at_most_8 xs)) (values_kept vs)
     ∙ ap (λ b. option_map (λ values. command.Insert values r) (if b then Some vs else None)) (within vs (nat_le (length vs) 8) refl k.few)
 
-pub is_never_lost : (bs r : List ℕ) (kept : List Token) → KeepsInsert kept r bs → None ≡ insert_into kept r → ⊥
+pub is_never_lost : (bs r : List ℕ) (kept : List Token) → KeepsInsert kept r bs → None ≡ built_insert kept r → ⊥
 is_never_lost bs r kept k e =
     let made_is : None ≡ Some (command.Insert k.values r) = e ∙ insert_made bs r kept k in
     cc
 
-pub is_made : (bs r : List ℕ) (kept : List Token) (c : Command) → KeepsInsert kept r bs → Some c ≡ insert_into kept r → IsSpelt c bs
+pub is_made : (bs r : List ℕ) (kept : List Token) (c : Command) → KeepsInsert kept r bs → Some c ≡ built_insert kept r → IsSpelt c bs
 is_made bs r kept c k e =
     let made_is : Some c ≡ Some (command.Insert k.values r) = e ∙ insert_made bs r kept k in
     let same : c ≡ command.Insert k.values r = cc in

@@ -72,11 +72,11 @@ token_number (Number z) = Some z
 token_number _ = None
 
 -- the name at a place, the number there, the kind of index there
-abbrev pub name_at : List Token → ℕ → Option (List ℕ)
-name_at ts n = option_and_then token_name (slice_get ts n)
+abbrev pub name_token_at : List Token → ℕ → Option (List ℕ)
+name_token_at ts n = option_and_then token_name (slice_get ts n)
 
-abbrev pub number_at : List Token → ℕ → Option ℤ
-number_at ts n = option_and_then token_number (slice_get ts n)
+abbrev pub number_token_at : List Token → ℕ → Option ℤ
+number_token_at ts n = option_and_then token_number (slice_get ts n)
 
 abbrev pub kind_at : List Token → ℕ → Option IndexKind
 kind_at ts n = option_and_then token_kind (slice_get ts n)
@@ -99,13 +99,13 @@ aggregates_in [] = []
 aggregates_in (t ∷ ts) =
     elim (is_from t) [
       | true ↦ []
-      | false ↦ elim (token_agg t) [ Some a ↦ elim (name_at ts 1) [ Some n ↦ (a, n) ∷ aggregates_in ts | None ↦ aggregates_in ts ] | None ↦ aggregates_in ts ]
+      | false ↦ elim (token_agg t) [ Some a ↦ elim (name_token_at ts 1) [ Some n ↦ (a, n) ∷ aggregates_in ts | None ↦ aggregates_in ts ] | None ↦ aggregates_in ts ]
     ]
 
 -- the name after the first FROM, INTO or IN
 abbrev pub relation_in : List Token → Option (List ℕ)
 relation_in [] = None
-relation_in (t ∷ ts) = elim (introduces t) [ true ↦ name_at ts 0 | false ↦ relation_in ts ]
+relation_in (t ∷ ts) = elim (introduces t) [ true ↦ name_token_at ts 0 | false ↦ relation_in ts ]
 
 -- a list of at most 8
 abbrev pub at_most_8 : {A : Type 0} → List A → Option (List A)
@@ -121,7 +121,7 @@ abbrev pub domain_read : List Token → Option DomainAsked
 domain_read (Word KINT ∷ ts) = Some asked.Int
 domain_read (Word KLONG ∷ ts) = Some asked.Long
 domain_read (Name time ∷ ts) = Some asked.Time
-domain_read (Word KSTRING ∷ ts) = option_map (λ z. asked.Str z) (number_at ts 1)
+domain_read (Word KSTRING ∷ ts) = option_map (λ z. asked.Str z) (number_token_at ts 1)
 domain_read _ = None
 
 -- NAME DOMAIN domain IN NAME
@@ -131,30 +131,30 @@ attribute_read _ = None
 
 -- NAME . NAME TYPE kind
 abbrev pub index_of : List Token → Option Command
-index_of ts = option_and_then (λ r. option_and_then (λ a. option_map (λ k. command.CreateIndex r a k) (kind_at ts 4)) (name_at ts 2)) (name_at ts 0)
+index_of ts = option_and_then (λ r. option_and_then (λ a. option_map (λ k. command.CreateIndex r a k) (kind_at ts 4)) (name_token_at ts 2)) (name_token_at ts 0)
 
 abbrev pub create_of : List Token → Option Command
-create_of (Word KRELATION ∷ ts) = option_map (λ n. command.CreateRelation n) (name_at ts 0)
+create_of (Word KRELATION ∷ ts) = option_map (λ n. command.CreateRelation n) (name_token_at ts 0)
 create_of (Word KATTRIBUTE ∷ ts) = attribute_read ts
 create_of (Word KINDEX ∷ ts) = index_of ts
 create_of _ = None
 
 -- NAME . NAME
 abbrev pub unindex_of : List Token → Option Command
-unindex_of ts = option_and_then (λ r. option_map (λ a. command.RemoveIndex r a) (name_at ts 2)) (name_at ts 0)
+unindex_of ts = option_and_then (λ r. option_map (λ a. command.RemoveIndex r a) (name_token_at ts 2)) (name_token_at ts 0)
 
 abbrev pub remove_of : List Token → List Node → Option Command
-remove_of (Word KFROM ∷ ts) nodes = option_map (λ r. command.RemoveFrom r nodes) (name_at ts 0)
-remove_of (Word KRELATION ∷ ts) nodes = option_map (λ r. command.RemoveRelation r) (name_at ts 0)
+remove_of (Word KFROM ∷ ts) nodes = option_map (λ r. command.RemoveFrom r nodes) (name_token_at ts 0)
+remove_of (Word KRELATION ∷ ts) nodes = option_map (λ r. command.RemoveRelation r) (name_token_at ts 0)
 remove_of (Word KINDEX ∷ ts) nodes = unindex_of ts
 remove_of _ nodes = None
 
 -- the INSERT of the values among some tokens
-abbrev pub insert_into : List Token → List ℕ → Option Command
-insert_into ts relation = option_map (λ values. command.Insert values relation) (at_most_8 (values_in false ts))
+abbrev pub built_insert : List Token → List ℕ → Option Command
+built_insert ts relation = option_map (λ values. command.Insert values relation) (at_most_8 (values_in false ts))
 
 abbrev pub insert_of : List Token → Option Command
-insert_of ts = option_and_then (insert_into ts) (relation_in ts)
+insert_of ts = option_and_then (built_insert ts) (relation_in ts)
 
 abbrev pub select_of : List Token → List Node → Option Query
 select_of ts nodes = option_and_then (λ relation. option_map (λ list. query.Select list relation nodes) (at_most_8 (name_tokens ts))) (relation_in ts)
@@ -165,7 +165,7 @@ projected_tokens ts = if nat_lt (length ts) 6 then None else at_most_8 (name_tok
 
 -- NAME , NAME ON NAME PROJECT NAME {, NAME}
 abbrev pub join_read : List Token → Option Query
-join_read ts = option_and_then (λ l. option_and_then (λ r. option_and_then (λ o. option_map (λ list. query.Join l r o list) (projected_tokens ts)) (name_at ts 4)) (name_at ts 2)) (name_at ts 0)
+join_read ts = option_and_then (λ l. option_and_then (λ r. option_and_then (λ o. option_map (λ list. query.Join l r o list) (projected_tokens ts)) (name_token_at ts 4)) (name_token_at ts 2)) (name_token_at ts 0)
 
 abbrev pub aggregate_read : List Token → List Node → Option Command
 aggregate_read ts nodes = option_and_then (λ relation. option_map (λ list. command.Aggregate list relation nodes) (at_most_8 (aggregates_in ts))) (relation_in ts)
@@ -189,13 +189,13 @@ abbrev pub joined_of : List Token → Option Command
 joined_of ts = option_map (λ q. command.Ask q) (join_read ts)
 
 abbrev pub pack_of : List Token → Option Command
-pack_of ts = option_map (λ r. command.Pack r) (name_at ts 0)
+pack_of ts = option_map (λ r. command.Pack r) (name_token_at ts 0)
 
 abbrev pub fetch_of : List Token → Option Command
-fetch_of ts = option_map (λ z. command.FetchCursor z) (number_at ts 0)
+fetch_of ts = option_map (λ z. command.FetchCursor z) (number_token_at ts 0)
 
 abbrev pub close_of : List Token → Option Command
-close_of ts = option_map (λ z. command.CloseCursor z) (number_at ts 0)
+close_of ts = option_map (λ z. command.CloseCursor z) (number_token_at ts 0)
 
 abbrev pub command_of : List Token → List Node → Option Command
 command_of (Word KCREATE ∷ ts) nodes = create_of ts

@@ -6,8 +6,8 @@ use Rattle.aql_parse.specs.declared.symbols.Symbol.{Symbol}
 use Rattle.aql_parse.specs.declared.symbols.Symbol.TheVariants as want
 
 -- what joins nodes, by a kind of its own
-abbrev pub join_of : ℕ → Symbol
-join_of kind =
+abbrev pub joiner : ℕ → Symbol
+joiner kind =
     if kind == 35 then want.Join joint.Add else
     if kind == 36 then want.Join joint.Sub else
     if kind == 37 then want.Join joint.Mul else
@@ -60,7 +60,7 @@ symbol_by kind n =
     if kind == 32 then want.Inside n else
     if kind == 33 then want.Behind n else
     if kind == 34 then want.Around n else
-    join_of kind
+    joiner kind
 
 -- the symbol of a code
 abbrev pub symbol_of : ℕ → Symbol

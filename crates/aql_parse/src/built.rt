@@ -7,7 +7,7 @@
 #![tactic(auto)]
 
 ghost use Rattle.std.specs.Prelude.{◌≡◌, Some};
-ghost use Rattle.aql_parse.specs.Built.{aggregate_read, attribute_read, close_of, command_of, create_of, domain_read, fetch_of, index_of, insert_into, insert_of, join_read, joined_of, made, open_of, pack_of, projected_tokens, query_of, relation_in, remove_of, select_of, selection_of, unindex_of};
+ghost use Rattle.aql_parse.specs.Built.{aggregate_read, attribute_read, close_of, command_of, create_of, domain_read, fetch_of, index_of, built_insert, insert_of, join_read, joined_of, made, open_of, pack_of, projected_tokens, query_of, relation_in, remove_of, select_of, selection_of, unindex_of};
 
 use crate::lists::{aggregates_in, names_in, relation_in, values_in};
 use crate::parts::{kind_at, name_at, number_at, token_name};
@@ -203,7 +203,7 @@ fn insert_of(tokens: &[Token], command: &mut Command) -> bool
 
 /// Puts the INSERT of the values among the tokens. They go where those of an earlier INSERT were.
 pub fn insert_into(tokens: &[Token], relation: Ident, command: &mut Command) -> bool
-    ensures { made result command.new ≡ insert_into tokens.now relation }
+    ensures { made result command.new ≡ built_insert tokens.now relation }
 {
     match command {
         Command::Insert {
@@ -219,7 +219,7 @@ pub fn insert_into(tokens: &[Token], relation: Ident, command: &mut Command) -> 
 
 // After a command of another kind.
 fn first_insert_into(tokens: &[Token], relation: Ident, command: &mut Command) -> bool
-    ensures { made result command.new ≡ insert_into tokens.now relation }
+    ensures { made result command.new ≡ built_insert tokens.now relation }
 {
     let mut values = Tuple::new();
     let fits = values_in(tokens, &mut values);

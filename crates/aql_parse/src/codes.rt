@@ -3,7 +3,7 @@
 #![tactic(auto)]
 
 ghost use Rattle.std.specs.Prelude.{◌≡◌};
-ghost use Rattle.aql_parse.specs.Codes.{FitsSymbol, join_of, symbol_by, symbol_of};
+ghost use Rattle.aql_parse.specs.Codes.{FitsSymbol, joiner, symbol_by, symbol_of};
 
 use crate::symbols::{Joint, Symbol};
 use db_model::Compare;
@@ -129,7 +129,7 @@ fn symbol_by(kind: u16, n: u16) -> Symbol
 
 #[inline(always)]
 fn join_of(kind: u16) -> Symbol
-    ensures { result ≡ join_of kind }
+    ensures { result ≡ joiner kind }
 {
     match kind {
         35 => Symbol::Join(Joint::Add),

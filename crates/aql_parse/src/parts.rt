@@ -3,7 +3,7 @@
 #![tactic(auto)]
 
 ghost use Rattle.std.specs.Prelude.{◌≡◌};
-ghost use Rattle.aql_parse.specs.Built.{introduces, is_from, is_minus, kind_at, name_at, number_at, token_agg, token_kind, token_name, token_number, token_value};
+ghost use Rattle.aql_parse.specs.Built.{introduces, is_from, is_minus, kind_at, name_token_at, number_token_at, token_agg, token_kind, token_name, token_number, token_value};
 
 use crate::conditions::minus;
 use db_model::{Agg, Ident, IndexKind, Keyword, Sign, Token, Value};
@@ -89,7 +89,7 @@ fn token_number(token: &Token) -> Option<i64>
 }
 
 pub fn name_at(tokens: &[Token], at: usize) -> Option<Ident>
-    ensures { result ≡ name_at tokens.now at }
+    ensures { result ≡ name_token_at tokens.now at }
 {
     match tokens.get(at) {
         Some(token) => token_name(token),
@@ -98,7 +98,7 @@ pub fn name_at(tokens: &[Token], at: usize) -> Option<Ident>
 }
 
 pub fn number_at(tokens: &[Token], at: usize) -> Option<i64>
-    ensures { result ≡ number_at tokens.now at }
+    ensures { result ≡ number_token_at tokens.now at }
 {
     match tokens.get(at) {
         Some(token) => token_number(token),

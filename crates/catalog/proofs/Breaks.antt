@@ -62,7 +62,7 @@ nothing (b ∷ bytes) e = absurd (omega (arith, e))
 
 -- ---- the catalog's file
 
-bytes_of_place : (o : Option File) → bytes_in_file o ≡ (unwrap_or o no_file).bytes
+pub bytes_of_place : (o : Option File) → bytes_in_file o ≡ (unwrap_or o no_file).bytes
 bytes_of_place None = refl
 bytes_of_place (Some f) = refl
 

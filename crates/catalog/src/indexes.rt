@@ -6,15 +6,15 @@ ghost use Rattle.db_model.specs.Catalog.{catalog_of, index_slot_of};
 ghost use Rattle.db_model.specs.Step.{allows};
 ghost use Rattle.catalog.specs.CatalogFile.{index_in, indexes_in};
 ghost use Rattle.catalog.specs.Formed.{AreBehind};
-ghost use Rattle.catalog.specs.Rules.{allows_at, breaks_index, first, how_many, is_behind, is_index_behind, is_same_place, is_table, is_third_table, sound_index, stands_on};
+ghost use Rattle.catalog.specs.Rules.{allows_at, breaks_index, first, how_many, is_behind, is_index_behind, is_same_place, is_table, is_surplus_table, sound_index, stands_on};
 
 use crate::decode::read_index;
 use crate::types::IndexEntry;
 use afl_base::{Failed, FileId, Files};
-use db_model::{Attribute, Domain, IndexKind, Schema};
+use db_model::{Attribute, Domain, IndexKind, MOST_TABLES, Schema};
 
 /// The index slots, or the first that is not of the catalog's form, stands on no attribute that its kind
-/// allows, on one with an index before it, or is a third hash table.
+/// allows, on one with an index before it, or is a hash table for which there is no memory.
 pub fn load_indexes<V: Files>(
     files: &mut V,
     cat: FileId,
@@ -115,14 +115,14 @@ fn is_index_behind(
     if is_doubled(before, entry) {
         return false;
     }
-    !is_third_table(before, entry)
+    !is_surplus_table(before, entry)
 }
 
-// Whether the index is a hash table after two others.
-fn is_third_table(before: &[Option<IndexEntry>], entry: &IndexEntry) -> bool
-    ensures { result ≡ is_third_table (indexes_in before.now) (index_in entry.now) }
+// Whether the index is a hash table more than there is memory for, after others.
+fn is_surplus_table(before: &[Option<IndexEntry>], entry: &IndexEntry) -> bool
+    ensures { result ≡ is_surplus_table (indexes_in before.now) (index_in entry.now) }
 {
-    is_table(&Some(*entry)) && hash_tables(before) >= 2
+    is_table(&Some(*entry)) && hash_tables(before) >= usize::from(MOST_TABLES)
 }
 
 // Whether the index stands on an attribute of its relation, of a domain that its kind allows.

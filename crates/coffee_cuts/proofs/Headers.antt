@@ -7,9 +7,9 @@ use Rattle.std.proofs.lemmas.List.{ext_get_or, get_or-take, length-take-le}
 use Rattle.afl_base.specs.Cuts.{IsCutProgram}
 use Rattle.afl_base.specs.Image.{or_at, page_bytes}
 use Rattle.afl_base.proofs.Images.{byte_in_page, length_or_at, length_range, or_at_other_page, or_at_page, or_at_range, range_at}
+use Rattle.coffee_cuts.proofs.TornBeginnings.{extents_turned}
 use Rattle.coffee_header.specs.Headers.{IsValid, header_bytes, is_flags}
 use Rattle.coffee_header.specs.declared.header.Header.{Header}
-use Rattle.coffee_layout.specs.Files.{extents}
 use Rattle.coffee_layout.specs.Marks.{IsLowestRun, active_pages, free_pages}
 use Rattle.coffee_layout.specs.Tiling.{IsTiled, KeepRules, broken_suffix, broken_unit, nowhere, units_of}
 use Rattle.coffee_layout.specs.Units.{is_active, is_active_flags, is_free, pages_of, total, unit_at, unit_of}
@@ -72,12 +72,6 @@ begun_settles building old new table page flag g h long some begun good done out
     }
 
 -- AN ISOLATED PAGE
-
-extents_turned : (front rest : List Unit) (from : ℕ) → extents from (front ++ (Isolated ∷ rest)) ≡ extents from (front ++ (Free ∷ rest))
-extents_turned [] rest from = refl
-extents_turned (Free ∷ us) rest from = extents_turned us rest (from + 1)
-extents_turned (Isolated ∷ us) rest from = extents_turned us rest (from + 1)
-extents_turned (Extent h ∷ us) rest from = ap (λ es. record { page = from; header = h } ∷ es) (extents_turned us rest (from + h.max_pages))
 
 -- a free page behind one in use is isolated now, and all other pages stay
 pub record Isolates (old new : List ℕ) (page : ℕ) : Type 0 where

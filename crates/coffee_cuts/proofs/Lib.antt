@@ -5,7 +5,7 @@ pub mod Commits
 pub mod Drafts
 pub mod EraseCuts
 mod Fronts
-mod HeaderFronts
+pub mod HeaderFronts
 pub mod Headers
 mod Logs
 pub mod MarkedPages
@@ -15,7 +15,7 @@ pub mod Reached
 pub mod SettledRules
 pub mod TornBeginnings
 pub mod TornContents
-mod TornRecords
+pub mod TornRecords
 pub mod TwoMarks
 pub mod ZeroPages
 pub mod ZeroedHeads

@@ -1,5 +1,5 @@
 -- The rules that an image breaks first where flags are missing in headers: the units tile it.
-use Rattle.std.proofs.Common.{◌≡◌, ◌≢◌, ◌⊎◌, inl, inr, ⊎_elim, ℕ, zero, suc, ◌+◌, ◌*◌, ◌/◌, ◌<◌, ◌≤◌, Bool, false, not, ◌&&◌, ◌||◌, ◌==◌, nat_lt, List, [], ◌∷◌, length, drop, get_or, Option, Some, None, if◌then◌else◌, refl, ap, sym, subst, ◌∙◌, arith}
+use Rattle.std.proofs.Common.{◌≡◌, ◌≢◌, ◌⊎◌, inl, inr, ⊎_elim, ℕ, zero, suc, ◌+◌, ◌*◌, ◌/◌, ◌<◌, ◌≤◌, Bool, false, not, ◌&&◌, ◌||◌, ◌==◌, nat_lt, List, [], ◌∷◌, length, drop, Option, Some, None, if◌then◌else◌, refl, ap, sym, subst, ◌∙◌, arith}
 use Rattle.std.specs.Option.{option_or}
 use Rattle.std.specs.List.{Contains}
 use Rattle.std.proofs.lemmas.Bool.{cases_eq}
@@ -23,7 +23,7 @@ use Rattle.padded.proofs.Facts.{lt_false}
 use Rattle.coffee_cuts.specs.Cuts.{IsReplacing, IsSettled}
 use Rattle.coffee_cuts.proofs.MarkedPages.{marked_alike, ninth, other_page, stands_at, units_alike}
 use Rattle.coffee_cuts.proofs.SettledRules.{KeepsSettled, settled_kept}
-use Rattle.coffee_cuts.proofs.TwoMarks.{IsMarked, file_begins, four, once_marked}
+use Rattle.coffee_cuts.proofs.TwoMarks.{IsMarked, contains_among as among_contains, file_begins, four, once_marked}
 use Rattle.coffee_cuts.proofs.FirstRules.{broken_same, kept_first}
 
 -- ---- A WALK
@@ -133,11 +133,6 @@ pub by_five : (o p : Option ℕ) (rest : Option BadImage) → (p ≡ None → �
 by_five None None rest some = absurd (some refl)
 by_five None (Some q) rest some = record { rule = 6; place = q; which = inr refl; is = refl }
 by_five (Some q) p rest some = record { rule = 5; place = q; which = inl refl; is = refl }
-
-among_contains : (fs : List Placed) (i : ℕ) (f : Placed) → i < length fs → get_or fs i f ≡ f → Among f fs
-among_contains [] i f less e = absurd (omega (arith, less))
-among_contains (x ∷ xs) zero f less e = inl e
-among_contains (x ∷ xs) (suc i) f less e = inr (among_contains xs i f (omega (arith, less)) e)
 
 module _ (image : List ℕ) (sectors : ℕ) (size : length image ≡ 4096 * sectors) (dropped kept : Placed) (r : IsReplacing image dropped kept)
     (s : IsSettled (flagged image dropped.page 4)) where

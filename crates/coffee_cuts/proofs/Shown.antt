@@ -5,7 +5,7 @@ use Rattle.coffee_layout.specs.Files.{NamedFile}
 use Rattle.coffee_layout.specs.Rules.{broken_image}
 use Rattle.coffee_layout.specs.declared.unit.BadImage.{BadImage}
 use Rattle.coffee_cuts.specs.Cuts.{IsFound, IsSettled, MendsTo, UnderWay, Nothing, Beginning, Building, Erasing, Unnamed, Naming, Replacing, settled}
-use Rattle.coffee_cuts.specs.Shown.{IsTornAlone, Shows}
+use Rattle.coffee_cuts.specs.Shown.{IsOnlyRecordTorn, ShowsUnderWay}
 use Rattle.coffee_cuts.proofs.ErasedSectors.{BreaksIn, erasings_break_in_their_sector}
 use Rattle.coffee_cuts.proofs.FirstRules.{drafts_break_rule_1, torn_headers_break_rule_1}
 use Rattle.coffee_cuts.proofs.LoneLogs.{lone_logs_break_rule_7_or_9}
@@ -21,7 +21,7 @@ not_none : {A : Type 0} (b : BadImage) → None ≡ Some b → A
 not_none b e = cc
 
 module _ (image : List ℕ) (sectors : ℕ) (size : length image ≡ 4096 * sectors) (bad : BadImage) (broken : broken_image image ≡ Some bad) where
-  alone : IsSettled image → IsTornAlone image bad
+  alone : IsSettled image → IsOnlyRecordTorn image bad
   alone (inl sound) = not_none bad (sym sound ∙ broken)
   alone (inr (inl torn)) = ⊎_elim
       (λ (none : broken_image image ≡ None). not_none bad (sym none ∙ broken))
@@ -40,7 +40,7 @@ module _ (image : List ℕ) (sectors : ℕ) (size : length image ≡ 4096 * sect
       (inr (ap (λ (b : BadImage). b.rule) same), inr (inr s))))
       (breaks_at_log image sectors size s)
 
-  by_case : (w : UnderWay) → IsFound image w → IsSettled (settled image w) → Shows image bad w
+  by_case : (w : UnderWay) → IsFound image w → IsSettled (settled image w) → ShowsUnderWay image bad w
   by_case Nothing f s = alone s
   by_case (Beginning page) f s = one_bad (record { rule = 1; place = page }) bad (sym (torn_headers_break_rule_1 image page sectors size f s) ∙ broken)
   by_case (Building page) f s = one_bad (record { rule = 1; place = page }) bad (sym (drafts_break_rule_1 image page sectors size f s) ∙ broken)
@@ -66,5 +66,5 @@ module _ (image : List ℕ) (sectors : ℕ) (size : length image ≡ 4096 * sect
       ⊎_elim (λ (e : b.rule ≡ 5). inl (rule ∙ e)) (λ (e : b.rule ≡ 6). inr (rule ∙ e)) b.which
 
   -- so of whatever an image mends to, the first broken rule shows what was under way
-  pub first_rules_show : (files : List NamedFile) (m : MendsTo image files) → Shows image bad m.under_way
+  pub first_rules_show : (files : List NamedFile) (m : MendsTo image files) → ShowsUnderWay image bad m.under_way
   first_rules_show files m = by_case m.under_way m.found m.settles

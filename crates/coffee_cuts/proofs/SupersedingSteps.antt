@@ -8,10 +8,10 @@ use Rattle.coffee_layout.specs.Rules.{broken_image}
 use Rattle.coffee_layout.specs.Units.{pages_of}
 use Rattle.flash_range.specs.Range.{Outside}
 use Rattle.coffee_cuts.specs.Cuts.{IsSuperseding, without_two}
-use Rattle.coffee_cuts.specs.Superseded.{GoesOn}
+use Rattle.coffee_cuts.specs.Superseded.{SupersedesFurther}
 use Rattle.coffee_cuts.proofs.Superseding.{in_or_out, superseding_files, two_long, two_number, two_others, two_records}
 
-module _ (image new : List ℕ) (whole : 256 * pages_of image ≡ length image) (t : IsSuperseding image) (g : GoesOn image new t) where
+module _ (image new : List ℕ) (whole : 256 * pages_of image ≡ length image) (t : IsSuperseding image) (g : SupersedesFurther image new t) where
   abbrev log : ℕ
   log = t.log.0
 

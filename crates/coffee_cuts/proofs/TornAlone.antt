@@ -26,7 +26,7 @@ use Rattle.coffee_cuts.proofs.SettledRules.{fits}
 use Rattle.coffee_cuts.proofs.Superseding.{one_is_two, zeros_beside}
 use Rattle.coffee_cuts.proofs.TornLogs.{IsTornAt, begun}
 
-contains_made : (make : Placed → FileAt) (fs : List Placed) (f : Placed) → Among f fs → Contains (map make fs) (make f)
+pub contains_made : (make : Placed → FileAt) (fs : List Placed) (f : Placed) → Among f fs → Contains (map make fs) (make f)
 contains_made make [] f there = absurd there
 contains_made make (x ∷ xs) f (inl same) = (0, omega arith, ap make same)
 contains_made make (x ∷ xs) f (inr there) = let r = contains_made make xs f there in (suc r.0, omega (arith, r.1), r.2)

@@ -180,7 +180,7 @@ module _ (image : List ℕ) (sectors : ℕ) (size : length image ≡ 4096 * sect
 
 -- ---- A TORN HEADER AT THE FIRST PAGE THAT IS NOT ZERO
 
-extents_turned : (front rest : List Unit) (from : ℕ) → extents from (front ++ (Isolated ∷ rest)) ≡ extents from (front ++ (Free ∷ rest))
+pub extents_turned : (front rest : List Unit) (from : ℕ) → extents from (front ++ (Isolated ∷ rest)) ≡ extents from (front ++ (Free ∷ rest))
 extents_turned [] rest from = refl
 extents_turned (Free ∷ us) rest from = extents_turned us rest (from + 1)
 extents_turned (Isolated ∷ us) rest from = extents_turned us rest (from + 1)

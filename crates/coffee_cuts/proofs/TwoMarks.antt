@@ -61,7 +61,7 @@ extents_begun (suc n) image from e a = ⊎_elim
         let step = units_step n image from v before is in
         ap (λ us. unit_begun us from e.page) step ∙ first v is rest (subst (λ us. Among e (extents from us)) step a)
 
-contains_among : (fs : List Placed) (i : ℕ) (f : Placed) → i < length fs → get_or fs i f ≡ f → Among f fs
+pub contains_among : (fs : List Placed) (i : ℕ) (f : Placed) → i < length fs → get_or fs i f ≡ f → Among f fs
 contains_among [] i f less e = absurd (omega (arith, less))
 contains_among (x ∷ xs) zero f less e = inl e
 contains_among (x ∷ xs) (suc i) f less e = inr (contains_among xs i f (omega (arith, less)) e)
@@ -102,7 +102,7 @@ once_marked image page flag mark = record { long = length_or_at image (256 * pag
 abbrev pub IsFileFlags : ℕ → Type 0
 IsFileFlags n = (n ≡ 3) ⊎ (n ≡ 11)
 
-file_test : (n : ℕ) → IsFileFlags n → (n == 3 || n == 11) ≡ true
+pub file_test : (n : ℕ) → IsFileFlags n → (n == 3 || n == 11) ≡ true
 file_test n (inl a) = ap (λ x. x == 3 || x == 11) a
 file_test n (inr a) = ap (λ x. x == 3 || x == 11) a
 

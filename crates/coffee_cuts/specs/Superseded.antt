@@ -14,7 +14,7 @@ pub record IsSuperseded (image new : List ℕ) (t : IsSuperseding image) : Type 
 
 -- a repair that is superseding a torn record has gone on with it: the record behind it holds a front part of the first region still, and
 -- has a number that goes with that; all else is as it was
-pub record GoesOn (image new : List ℕ) (t : IsSuperseding image) : Type 0 where
+pub record SupersedesFurther (image new : List ℕ) (t : IsSuperseding image) : Type 0 where
   pub long : length new ≡ length image
   pub done : ℕ
   pub within : done ≤ 128

@@ -7,8 +7,8 @@ mod torn;
 ghost use Rattle.std.specs.Prelude.{◌≡◌, ◌*◌, ◌≤◌, ℕ, List, None, Some, length};
 ghost use Rattle.coffee_cuts.specs.Cuts.{IsSuperseding, MendsTo};
 ghost use Rattle.coffee_cuts.specs.Mending.{MendsToTable};
-ghost use Rattle.coffee_cuts.specs.Shown.{Shows};
-ghost use Rattle.coffee_cuts.specs.Superseded.{GoesOn, IsSuperseded};
+ghost use Rattle.coffee_cuts.specs.Shown.{ShowsUnderWay};
+ghost use Rattle.coffee_cuts.specs.Superseded.{SupersedesFurther, IsSuperseded};
 ghost use Rattle.coffee_layout.specs.Files.{NamedFile, files_of};
 ghost use Rattle.coffee_layout.specs.Rules.{broken_image};
 ghost use Rattle.coffee_layout.specs.declared.file.FileAt.{FileAt};
@@ -43,7 +43,7 @@ pub fn cut_images_mend_to_one_list()
 /// The first rule that an image breaks which a cut left, and its place, show what was under way.
 pub fn first_rules_show_what_was_under_way()
     ensures { (image : List ℕ) (files : List NamedFile) (bad : BadImage) (sectors : ℕ) → length image ≡ 4096 * sectors
-        → broken_image image ≡ Some bad → (m : MendsTo image files) → Shows image bad m.under_way }
+        → broken_image image ≡ Some bad → (m : MendsTo image files) → ShowsUnderWay image bad m.under_way }
 {}
 
 /// A torn record is superseded by the one behind it: once that holds the first region of the log's file, and both have
@@ -59,7 +59,7 @@ pub fn torn_records_are_superseded()
 /// and mends to the same files.
 pub fn supersedings_go_on()
     ensures still { (image new : List ℕ) (sectors : ℕ) → length image ≡ 4096 * sectors → (t : IsSuperseding image)
-        → GoesOn image new t → (s : IsSuperseding new) × (s.log ≡ t.log) × (s.file ≡ t.file) }
+        → SupersedesFurther image new t → (s : IsSuperseding new) × (s.log ≡ t.log) × (s.file ≡ t.file) }
     ensures files { (image new : List ℕ) (sectors : ℕ) → length image ≡ 4096 * sectors → (t : IsSuperseding image)
-        → GoesOn image new t → files_of new ≡ files_of image }
+        → SupersedesFurther image new t → files_of new ≡ files_of image }
 {}

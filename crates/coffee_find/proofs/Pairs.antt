@@ -4,10 +4,9 @@ use Rattle.std.specs.Prelude.{IfNone, IfSome}
 use Rattle.std.specs.Int.{from_bool}
 use Rattle.std.specs.List.{Contains, filter}
 use Rattle.std.proofs.lemmas.Bool.{cases_eq, cases_lt}
-use Rattle.coffee_header.specs.declared.header.Header.{Header}
 use Rattle.coffee_layout.specs.Files.{Placed, extents, files_in, is_file}
 use Rattle.coffee_layout.specs.Tiling.{units_of}
-use Rattle.coffee_layout.specs.declared.unit.Unit.TheVariants.{Extent}
+use Rattle.coffee_merge.proofs.Holdings.{one_header as same_extents}
 use Rattle.coffee_merge.specs.Begun.{unit_begun}
 use Rattle.coffee_merge.specs.Flags.{flagged}
 use Rattle.coffee_merge.proofs.SoundUnits.{Among, among_filter, begun_extent}
@@ -15,7 +14,7 @@ use Rattle.padded.proofs.Facts.{filter_few, lt_false, lt_true, true_or_false, ye
 use Rattle.coffee_cuts.specs.Cuts.{IsFound, IsOver, Replacing as was_replacing}
 use Rattle.coffee_cuts.proofs.MarkedPages.{ninth, other_ninth}
 use Rattle.coffee_cuts.proofs.SettledRules.{KeepsSettled, begins, one_named, placed_at, settled_kept}
-use Rattle.coffee_cuts.proofs.TwoMarks.{IsFileFlags, IsMarked, file_begins, file_ninth, four, once_marked, turned_begins}
+use Rattle.coffee_cuts.proofs.TwoMarks.{IsFileFlags, IsMarked, file_begins, file_ninth, file_test, four, once_marked, turned_begins}
 use Rattle.coffee_find.specs.Found.{meant, placed_of}
 use Rattle.coffee_find.specs.Guesses.{Means, MendsBy}
 use Rattle.coffee_find.specs.Search.{AreTwins, HasNoFile}
@@ -61,9 +60,6 @@ filter_gains p q x (e ∷ es) implied (inr a) out here =
 
 -- ---- FILES OF ONE IMAGE
 
-same_extents : (h k : Header) → Some (Extent h) ≡ Some (Extent k) → h ≡ k
-same_extents h k e = cc
-
 -- files at one page are one
 pub one_file : (image : List ℕ) (f g : Placed) → Contains (files_in (units_of image)) f → Contains (files_in (units_of image)) g → f.page ≡ g.page → f ≡ g
 one_file image f g a b same =
@@ -71,10 +67,6 @@ one_file image f g a b same =
     let second = (file_begins image g b).0 in
     let headers : f.header ≡ g.header = same_extents f.header g.header (sym first ∙ ap (unit_begun (units_of image) 0) same ∙ second) in
     ap (λ p. placed_at p f.header) same ∙ ap (placed_at g.page) headers
-
-file_test : (n : ℕ) → IsFileFlags n → (n == 3 || n == 11) ≡ true
-file_test n (inl a) = ap (λ x. x == 3 || x == 11) a
-file_test n (inr a) = ap (λ x. x == 3 || x == 11) a
 
 module _ (image : List ℕ) (pages : ℕ) (size : length image ≡ 256 * pages) (dropped kept : Placed) (m : MendsBy image (was_replacing dropped kept)) where
   abbrev gone : List ℕ

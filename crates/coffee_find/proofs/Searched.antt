@@ -3,7 +3,7 @@ use Rattle.std.proofs.Common.{◌≡◌, ◌≢◌, ◌⊎◌, inl, inr, ⊎_eli
 use Rattle.coffee_layout.specs.Rules.{broken_image}
 use Rattle.coffee_layout.specs.declared.unit.BadImage.{BadImage}
 use Rattle.coffee_cuts.specs.Cuts.{UnderWay, Nothing, Beginning, Building, Erasing, Unnamed, Naming, Replacing}
-use Rattle.coffee_cuts.specs.Shown.{Shows}
+use Rattle.coffee_cuts.specs.Shown.{ShowsUnderWay}
 use Rattle.coffee_cuts.proofs.Shown.{first_rules_show}
 use Rattle.coffee_find.specs.Found.{MendsToNone}
 use Rattle.coffee_find.specs.Guesses.{IsHeadWrong, IsWrong, MendsBy}
@@ -88,7 +88,7 @@ module _ (image : List ℕ) (bad : BadImage) where
   }
 
 module _ (image : List ℕ) (sectors : ℕ) (size : length image ≡ 4096 * sectors) (bad : BadImage) (broken : broken_image image ≡ Some bad) (wrong : AreWrong image bad) where
-  by_way : (way : UnderWay) → MendsBy image way → Shows image bad way → ⊥
+  by_way : (way : UnderWay) → MendsBy image way → ShowsUnderWay image bad way → ⊥
   by_way Nothing m s = wrong.nothing s.0 Nothing refl m
   by_way (Beginning page) m s = wrong.torn_header (ap (λ (b : BadImage). b.rule) s) (Beginning page) (refl, sym (ap (λ (b : BadImage). b.place) s)) m
   by_way (Building page) m s = wrong.header (ap (λ (b : BadImage). b.rule) s) (Building page) (refl, sym (ap (λ (b : BadImage). b.place) s)) m

@@ -22,7 +22,7 @@ use Rattle.coffee_merge.proofs.Holdings.{entries_apart}
 use Rattle.coffee_merge.proofs.MovedFiles.{held_listed}
 use Rattle.coffee_merge.proofs.SoundEntries.{table_by}
 use Rattle.coffee_merge.proofs.SoundTables.{sound_held}
-use Rattle.padded.proofs.Facts.{lt_true, some_same, true_eq}
+use Rattle.padded.proofs.Facts.{lt_true, not_not as not_false, some_same, true_eq}
 use Rattle.coffee_cuts.specs.Cuts.{IsNumbered, IsSettled, IsSuperseding, settled, without_two}
 use Rattle.coffee_cuts.proofs.Superseding.{two_long, two_others}
 use Rattle.coffee_find.specs.Found.{IsInFlash, IsRecordInside, IsSupersededAt, meant, without_record}
@@ -61,10 +61,6 @@ one_owner image f g log sound whole first second a b =
     let apart = entries_apart image (table_by (entry_of image) (files_in (units_of image)) 0) None i.0 j.0 f g holds i.1 j.1 differs in
     absurd (apart.logs log log a b log.0 (omega arith) (omega arith) (omega arith) (omega arith)))
     (cases_eq i.0 j.0)
-
-not_false : (b : Bool) → not b ≡ false → b ≡ true
-not_false true e = refl
-not_false false e = cc
 
 -- A RECORD BEFORE THE LAST ONE
 

@@ -90,7 +90,7 @@ abbrev pub MendsToNone : List ℕ → Type 0
 MendsToNone image = (files : List NamedFile) → MendsTo image files → ⊥
 
 -- no cut leaves such an image: this is the first rule that it breaks, and it mends to no files
-pub record IsStrange (image : List ℕ) (bad : BadImage) : Type 0 where
+pub record IsBeyondMending (image : List ℕ) (bad : BadImage) : Type 0 where
   pub broken : broken_image image ≡ Some bad
   pub mends : MendsToNone image
 
@@ -98,7 +98,7 @@ pub record IsStrange (image : List ℕ) (bad : BadImage) : Type 0 where
 abbrev pub IsJudged : List ℕ → Judgement → Type 0
 IsJudged image Sound = broken_image image ≡ None
 IsJudged image (Cut trouble) = (broken_image image ≢ None) × IsCutBy image trouble
-IsJudged image (Strange bad) = IsStrange image bad
+IsJudged image (Strange bad) = IsBeyondMending image bad
 
 -- what a judgement names lies inside the flash
 abbrev pub IsJudgedInside : (size : ℕ) → Judgement → Type 0

@@ -32,7 +32,7 @@ use Rattle.coffee_merge.proofs.SoundUnits.{among_filter, begun_extent}
 use Rattle.coffee_cuts.specs.Cuts.{IsActiveAt}
 use Rattle.coffee_cuts.proofs.TornLogs.{IsTornAt as IsTornLog, begun as begun_zero, torn_files as files_of_torn}
 use Rattle.coffee_find.specs.Found.{IsTornAt}
-use Rattle.coffee_mend.specs.Joined.{IsJoined, IsSameBut, LacksRoom, OwnsLog, old_log_header}
+use Rattle.coffee_mend.specs.Joined.{IsJoined, IsSameBut, LacksExtent, OwnsLog, old_log_header}
 use Rattle.coffee_mend.specs.Mended.{IsTornAs}
 
 pub same_then : (a b c : List ℕ) → SameFiles a b → SameFiles b c → SameFiles a c
@@ -132,7 +132,7 @@ log_clear image log name sound whole active =
     log_from_rules image log (rules.filled g there) (rules.clear g there)
 
 -- so the record stands as zeros beside an image that lacks room
-zero_record : (old shown image : List ℕ) (log place need : ℕ) → IsTornAt old log place → place + 128 ≤ length old → IsSameBut shown image place → LacksRoom (zeros_at old place 128) shown log need
+zero_record : (old shown image : List ℕ) (log place need : ℕ) → IsTornAt old log place → place + 128 ≤ length old → IsSameBut shown image place → LacksExtent (zeros_at old place 128) shown log need
     → zeros_at image place 128 ≡ shown
 zero_record old shown image log place need t inside but l =
     let record_is : place ≡ 256 * log + 96 + 128 * used_in (table_of old log) = t.next in
@@ -144,7 +144,7 @@ zero_record old shown image log place need t inside but l =
 
 -- an image that lacks room where the record stands beside it is torn as before
 pub still_torn : (old shown new : List ℕ) (log place need : ℕ) → IsTornAt old log place → 256 * pages_of old ≡ length old → place + 128 ≤ length old → IsSameBut shown new place
-    → LacksRoom (zeros_at old place 128) shown log need → IsTornAs old new log place need
+    → LacksExtent (zeros_at old place 128) shown log need → IsTornAs old new log place need
 still_torn old shown new log place need t whole inside but l =
     let record_is : place ≡ 256 * log + 96 + 128 * used_in (table_of old log) = t.next in
     let free = t.free in

@@ -32,7 +32,7 @@ use Rattle.coffee_mend.proofs.HiddenBytes.{blank_but, byte_same, head_hidden, lo
 use Rattle.coffee_mend.proofs.HiddenCollections.{cut_shown, hidden_tiled, kept_shown, units_new}
 use Rattle.coffee_mend.proofs.HiddenMends.{settles_after, torn_mends}
 use Rattle.coffee_mend.proofs.LikeSettlings.{or_but}
-use Rattle.coffee_mend.specs.Joined.{HidesRecord, IsEmptyDraft, IsNextIn, IsPartCopied, IsSameBut, LeavesFiles}
+use Rattle.coffee_mend.specs.Joined.{HidesRecord, IsEmptyDraft, IsNextIn, IsPartCopied, IsSameBut, LeavesTable}
 use Rattle.coffee_mend.specs.Mended.{MendsLike}
 
 pub next_after : (size other place : ℕ) (e : FileAt) → other ≡ size → IsNextIn size place e → IsNextIn other place e
@@ -122,7 +122,7 @@ units_left (Err (Space need)) old new kept cramped = record { kept = kept; cramp
 units_left (Err Failed) old new kept cramped = tt
 
 pub files_left : (old new : List ℕ) (place : ℕ) (table : Entries) (i : ℕ) (e : FileAt) → (r : HidesRecord old table None i e place) → length new ≡ length old → (need : ℕ) → LeavesUnits old new need
-    → LeavesFiles (zeros_at old place 128) (zeros_at new place 128) table need
+    → LeavesTable (zeros_at old place 128) (zeros_at new place 128) table need
 files_left old new place table i e r long need l =
     let us = units_of (zeros_at old place 128) in
     let tiled = hidden_tiled old place table i e r in

@@ -1,6 +1,7 @@
 -- A file that is put together with its log: a new extent, the copy of the file into it, and three flags.
-use Rattle.std.proofs.Common.{length, map, true, false, suc, inl, inr, [], ◌∷◌, ◌++◌, replicate, ◌≡◌, ◌≢◌, ℕ, ◌-◌, ◌*◌, ◌≤◌, ◌<◌, ◌==◌, List, Some, None, bit_or, refl, ap, sym, subst, ◌∙◌, arith}
+use Rattle.std.proofs.Common.{length, map, true, false, [], ◌∷◌, ◌++◌, replicate, ◌≡◌, ◌≢◌, ℕ, ◌-◌, ◌*◌, ◌≤◌, ◌<◌, ◌==◌, List, Some, None, bit_or, refl, ap, sym, subst, ◌∙◌, arith}
 use Rattle.afl_base.specs.declared.ids.PageId.{PageId}
+use Rattle.coffee_cuts.proofs.TornAlone.{contains_made}
 use Rattle.coffee_header.specs.Headers.{is_flags}
 use Rattle.coffee_header.specs.declared.header.Header.{Header}
 use Rattle.coffee_layout.specs.FileBytes.{file_byte}
@@ -33,7 +34,7 @@ use Rattle.afl_base.specs.declared.kind.FileError.TheVariants.{Space, Failed}
 use Rattle.std.specs.Prelude.{Result, Ok, Err}
 use Rattle.coffee_merge.proofs.MovedFiles.{stays_files}
 use Rattle.coffee_merge.proofs.SoundLogs.{used_is}
-use Rattle.coffee_mend.specs.Joined.{LacksRoom, LeavesFiles, IsJoined, JoinsFile, joined_at, old_log_header}
+use Rattle.coffee_mend.specs.Joined.{LacksExtent, LeavesTable, IsJoined, JoinsFile, joined_at, old_log_header}
 use Rattle.coffee_merge.proofs.Retired.{one_flags as same_flags}
 
 -- OBSOLETE in the header of a file: its log stands as it did
@@ -112,8 +113,8 @@ failed_on r q Failed was is failed = was
 failed_on r q (Space need) was is failed = let no : ⊥ = cc in absurd no
 
 -- where no pages are had for a file with a log
-pub lacks_room : (old new : List ℕ) (table : Entries) (i : ℕ) (file : FileAt) (log : PageId) (need : ℕ) → IsTable old table None → IsIn table i file → file.log ≡ Some log → LeavesFiles old new table need → need ≡ file.pages
-    → LacksRoom old new log.0 need
+pub lacks_room : (old new : List ℕ) (table : Entries) (i : ℕ) (file : FileAt) (log : PageId) (need : ℕ) → IsTable old table None → IsIn table i file → file.log ≡ Some log → LeavesTable old new table need → need ≡ file.pages
+    → LacksExtent old new log.0 need
 lacks_room old new table i file log need t is logged l pages = record {
   keeps = record {
     table = table;
@@ -137,11 +138,6 @@ lacks_room old new table i file log need t is logged l pages = record {
 }
 
 -- ---- which file has a log
-
-contains_made : (make : Placed → FileAt) (fs : List Placed) (f : Placed) → Among f fs → Contains (map make fs) (make f)
-contains_made make [] f there = absurd there
-contains_made make (x ∷ xs) f (inl same) = (0, omega arith, ap make same)
-contains_made make (x ∷ xs) f (inr there) = let r = contains_made make xs f there in (suc r.0, omega (arith, r.1), r.2)
 
 -- a file among some has the log at a page, and the pages of its kind
 pub record HasLogOf (files : List FileAt) (log : PageId) : Type 0 where

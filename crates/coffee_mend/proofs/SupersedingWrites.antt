@@ -13,7 +13,7 @@ use Rattle.coffee_log.proofs.RecordLaws.{kept_number, number_image}
 use Rattle.flash_range.specs.Range.{IsCutRange}
 use Rattle.flash_range.proofs.Ranges.{or_on_zero, or_outside}
 use Rattle.coffee_cuts.specs.Cuts.{IsNumbered, IsSuperseding, without_two}
-use Rattle.coffee_cuts.specs.Superseded.{GoesOn, IsSuperseded}
+use Rattle.coffee_cuts.specs.Superseded.{SupersedesFurther, IsSuperseded}
 use Rattle.coffee_cuts.proofs.Superseding.{logged, number_same}
 use Rattle.coffee_find.specs.Found.{IsRecordInside}
 use Rattle.coffee_find.specs.declared.trouble.TornRecord.{TornRecord}
@@ -21,7 +21,7 @@ use Rattle.coffee_mend.specs.Superseding.{GoesOnOrIsDone, HoldsFirst}
 
 -- a repair has gone on so far that all of the first region is in the record
 pub record IsWritten (image new : List ℕ) (t : IsSuperseding image) : Type 0 where
-  pub gone : GoesOn image new t
+  pub gone : SupersedesFurther image new t
   pub all : gone.done ≡ 128
 
 -- and so far that the record has its number
@@ -76,7 +76,7 @@ module _ (image : List ℕ) (r : TornRecord) (region : List ℕ) (whole : 256 * 
         (out (256 * t.log.0 + 32 + 2 * (t.file.used + 1)) (λ a b. omega (arith, a, f)))
         (out (256 * t.log.0 + 32 + 2 * (t.file.used + 1) + 1) (λ a b. omega (arith, a, f)))
 
-    record_goes_on : (g : GoesOn image new t) × (n ≤ g.done)
+    record_goes_on : (g : SupersedesFurther image new t) × (n ≤ g.done)
     record_goes_on = ⊎_elim
         (λ (less : n < t.done). (
           record {
@@ -189,7 +189,7 @@ module _ (image : List ℕ) (r : TornRecord) (region : List ℕ) (whole : 256 * 
     abbrev torn_slot : ℕ
     torn_slot = 256 * t.log.0 + 32 + 2 * t.file.used
 
-    abbrev before : GoesOn image mid t
+    abbrev before : SupersedesFurther image mid t
     before = m.written.gone
 
     done_out : (k : ℕ) → (torn_slot ≤ k → k < torn_slot + 2 → ⊥) → get_or new k 0 ≡ get_or mid k 0
@@ -256,7 +256,7 @@ module _ (image : List ℕ) (r : TornRecord) (region : List ℕ) (whole : 256 * 
       (cut.whole (omega arith) page)
 
   module _ (long : length region ≡ 128) where
-    pub record_cut : (new : List ℕ) (at : ℕ) → at ≡ r.place + 128 → IsCutRange image new at region → GoesOn image new t
+    pub record_cut : (new : List ℕ) (at : ℕ) → at ≡ r.place + 128 → IsCutRange image new at region → SupersedesFurther image new t
     record_cut new at is cut =
         let w = cut.within in
         (record_goes_on long cut.done (omega (arith, w, long)) new (cut.is ∙ ap (λ p. or_at image p (take cut.done region)) (is ∙ here_is))).0
@@ -272,11 +272,11 @@ module _ (image : List ℕ) (r : TornRecord) (region : List ℕ) (whole : 256 * 
     pub name_written : (mid new : List ℕ) (at : ℕ) → at ≡ 256 * r.log.0 + 34 + 2 * r.used → IsWritten image mid t → new ≡ or_at mid at (1 ∷ 0 ∷ []) → IsNamed image new t
     name_written mid new at is w all = is_named mid new w some (all ∙ ap (λ p. or_at mid p (1 ∷ 0 ∷ [])) (is ∙ name_is))
 
-    pub name_cut : (mid new : List ℕ) (at : ℕ) → at ≡ 256 * r.log.0 + 34 + 2 * r.used → IsWritten image mid t → IsCutRange mid new at (1 ∷ 0 ∷ []) → GoesOn image new t
+    pub name_cut : (mid new : List ℕ) (at : ℕ) → at ≡ 256 * r.log.0 + 34 + 2 * r.used → IsWritten image mid t → IsCutRange mid new at (1 ∷ 0 ∷ []) → SupersedesFurther image new t
     name_cut mid new at is w cut =
         let f = t.free in
         let n = name_is in ⊎_elim
-        (λ (none : new ≡ mid). subst (λ x. GoesOn image x t) (sym none) w.gone)
+        (λ (none : new ≡ mid). subst (λ x. SupersedesFurther image x t) (sym none) w.gone)
         (λ (both : new ≡ or_at mid at (1 ∷ 0 ∷ [])). (name_written mid new at is w both).written.gone)
         (none_or_both mid new at cut (omega (arith, is, n, f)))
 
@@ -287,6 +287,6 @@ module _ (image : List ℕ) (r : TornRecord) (region : List ℕ) (whole : 256 * 
     last_cut mid new at is m cut =
         let f = t.free in
         let n = torn_is in ⊎_elim
-        (λ (none : new ≡ mid). inl (subst (λ x. GoesOn image x t) (sym none) m.written.gone))
+        (λ (none : new ≡ mid). inl (subst (λ x. SupersedesFurther image x t) (sym none) m.written.gone))
         (λ (both : new ≡ or_at mid at (1 ∷ 0 ∷ [])). inr (superseded mid new at is m both))
         (none_or_both mid new at cut (omega (arith, is, n, f)))

@@ -15,7 +15,7 @@ use Rattle.coffee_merge.proofs.MovedFiles.{held_listed}
 use Rattle.coffee_merge.proofs.SoundEntries.{table_by}
 use Rattle.coffee_merge.proofs.SoundTables.{sound_held}
 use Rattle.coffee_cuts.specs.Cuts.{IsActiveAt, IsSuperseding, Nothing, without_two}
-use Rattle.coffee_cuts.specs.Superseded.{GoesOn, IsSuperseded}
+use Rattle.coffee_cuts.specs.Superseded.{SupersedesFurther, IsSuperseded}
 use Rattle.coffee_cuts.proofs.SupersededRecords.{superseded_files, superseded_sound}
 use Rattle.coffee_cuts.proofs.Superseding.{in_use, log_active, one_is_two, superseding_files, two_long}
 use Rattle.coffee_cuts.proofs.SupersedingSteps.{goes_on, on_files}
@@ -189,7 +189,7 @@ module _ (image : List ℕ) (sectors : ℕ) (size : length image ≡ 4096 * sect
         record { files = files_of new; mends = record { under_way = Nothing; found = tt; settles = inl d.sound; files_are = refl }; kept = d.same.kept; only = d.same.only }
 
     -- or has gone on
-    on_like : GoesOn image new t_at → MendsLike image new
+    on_like : SupersedesFurther image new t_at → MendsLike image new
     on_like g =
         let same : files_of new ≡ files_of image = on_files image new whole t_at g in
         record {

@@ -16,7 +16,7 @@ use Rattle.coffee_find.specs.Found.{IsTornAt}
 use Rattle.coffee_mend.proofs.Beside.{still_torn, table_same}
 use Rattle.coffee_mend.proofs.HiddenBytes.{blank_but}
 use Rattle.coffee_mend.proofs.Joins.{lacks_room}
-use Rattle.coffee_mend.specs.Joined.{HidesRecord, IsOwner, LeavesFiles}
+use Rattle.coffee_mend.specs.Joined.{HidesRecord, IsOwner, LeavesTable}
 use Rattle.coffee_mend.specs.Mended.{IsTornAs}
 
 -- with zeros in the place of the record, the image holds a table in which it stands
@@ -63,12 +63,12 @@ module _ (old mid new : List ℕ) (log : PageId) (place sectors : ℕ) (file : F
       subst (λ x. P (zeros_at x place 128)) same
       (known (map Some (listed (zeros_at old place 128)) ++ replicate 0 None) h.0 place (subst (λ x. HidesRecord x (map Some (listed (zeros_at old place 128)) ++ replicate 0 None) None h.0 file place) (sym same) h.1) o.logged)
 
-  pub torn_left : (need : ℕ) → length new ≡ length mid → ((table : Entries) (i at : ℕ) → HidesRecord mid table None i file at → LeavesFiles (zeros_at mid at 128) (zeros_at new at 128) table need) → need ≡ file.pages → IsTornAs old new log.0 place need
+  pub torn_left : (need : ℕ) → length new ≡ length mid → ((table : Entries) (i at : ℕ) → HidesRecord mid table None i file at → LeavesTable (zeros_at mid at 128) (zeros_at new at 128) table need) → need ≡ file.pages → IsTornAs old new log.0 place need
   torn_left need long left pages =
       let h = torn_hidden old log place sectors file size small inside t o in
       let table : Entries = map Some (listed (zeros_at old place 128)) ++ replicate 0 None in
-      let l : LeavesFiles (zeros_at old place 128) (zeros_at new place 128) (map Some (listed (zeros_at old place 128)) ++ replicate 0 None) need =
-      subst (λ x. LeavesFiles (zeros_at x place 128) (zeros_at new place 128) (map Some (listed (zeros_at old place 128)) ++ replicate 0 None) need) same
+      let l : LeavesTable (zeros_at old place 128) (zeros_at new place 128) (map Some (listed (zeros_at old place 128)) ++ replicate 0 None) need =
+      subst (λ x. LeavesTable (zeros_at x place 128) (zeros_at new place 128) (map Some (listed (zeros_at old place 128)) ++ replicate 0 None) need) same
       (left (map Some (listed (zeros_at old place 128)) ++ replicate 0 None) h.0 place (subst (λ x. HidesRecord x (map Some (listed (zeros_at old place 128)) ++ replicate 0 None) None h.0 file place) (sym same) h.1)) in
       still_torn old (zeros_at new place 128) new log.0 place need t (omega (arith, size)) inside (blank_but new place (omega (arith, inside, long, ap length same)))
       (lacks_room (zeros_at old place 128) (zeros_at new place 128) (map Some (listed (zeros_at old place 128)) ++ replicate 0 None) h.0 file log need h.1.table_is h.1.there o.logged l pages)

@@ -54,7 +54,7 @@ pub record OwnsLog (us : List Unit) (log pages : ℕ) : Type 0 where
   pub shape : has_shape (kind_of header) header.max_pages ≡ true
 
 -- an image keeps the files of another and the log at a page, and no extent of this many pages is available in it
-pub record LacksRoom (old new : List ℕ) (log need : ℕ) : Type 0 where
+pub record LacksExtent (old new : List ℕ) (log need : ℕ) : Type 0 where
   pub keeps : KeepsFiles old new
   pub name : List ℕ
   pub stands : active_at (units_of new) log ≡ Some (log_header name)
@@ -85,7 +85,7 @@ pub record HidesRecord (image : List ℕ) (table : Entries) (draft : Option File
   pub record_is : IsNextIn (length image) place e
 
 -- the files are held as they were, and no extent of this many pages is available
-pub record LeavesFiles (old new : List ℕ) (table : Entries) (need : ℕ) : Type 0 where
+pub record LeavesTable (old new : List ℕ) (table : Entries) (need : ℕ) : Type 0 where
   pub stays : Stays old new table
   pub cramped : IsCramped (units_of new) need
 

@@ -2,7 +2,7 @@
 use Rattle.std.specs.Prelude.{◌≡◌, ◌⊎◌, ℕ, ◌<◌, List, slice_index}
 use Rattle.afl_base.specs.Image.{zeros_at}
 use Rattle.coffee_cuts.specs.Cuts.{IsSuperseding, without_two}
-use Rattle.coffee_cuts.specs.Superseded.{GoesOn, IsSuperseded}
+use Rattle.coffee_cuts.specs.Superseded.{SupersedesFurther, IsSuperseded}
 use Rattle.coffee_find.specs.Found.{IsTornAt}
 use Rattle.coffee_find.specs.declared.trouble.TornRecord.{TornRecord}
 use Rattle.coffee_layout.specs.FileBytes.{file_byte}
@@ -17,7 +17,7 @@ pub record HoldsFirst (image : List ℕ) (r : TornRecord) (region : List ℕ) (t
 
 -- a repair that was superseding a torn record has gone on with it, or is done
 abbrev pub GoesOnOrIsDone : (image new : List ℕ) → IsSuperseding image → Type 0
-GoesOnOrIsDone image new t = GoesOn image new t ⊎ IsSuperseded image new t
+GoesOnOrIsDone image new t = SupersedesFurther image new t ⊎ IsSuperseded image new t
 
 -- an image is sound but for a torn record of the log of a file
 pub record IsTornOf (image : List ℕ) (r : TornRecord) (file : FileAt) : Type 0 where

@@ -11,7 +11,7 @@ ghost use Rattle.coffee_layout.specs.declared.file.FileAt.{FileAt as FileEntry};
 ghost use Rattle.coffee_merge.specs.CutMarks.{KeepsHead};
 ghost use Rattle.coffee_merge.specs.Holding.{BeginsExtent, Copies, Entries, draft_header, extent_of, has_shape};
 ghost use Rattle.coffee_merge.specs.Takes.{KeepsPagesBut};
-ghost use Rattle.coffee_mend.specs.Joined.{HidesRecord, IsEmptyDraft, IsPartCopied, LeavesFiles};
+ghost use Rattle.coffee_mend.specs.Joined.{HidesRecord, IsEmptyDraft, IsPartCopied, LeavesTable};
 ghost use Rattle.coffee_mend.specs.Mended.{MendsLike};
 
 use afl_base::{Failed, FileError, Flash, Kind, PageId};
@@ -35,7 +35,7 @@ pub(crate) fn begin_draft<F: Flash>(flash: &mut F, file: &FileAt) -> Result<Page
         (extent_of file.now.name file.now.kind page.0 file.now.pages file.now.size)) }
     ensures left { IsTrue F.tells → OnSpace result
         (λ need. (table : Entries) (i place : ℕ) → HidesRecord (F.image flash.old) table None i file.now place
-        → LeavesFiles (zeros_at (F.image flash.old) place 128) (zeros_at (F.image flash.new) place 128) table need) }
+        → LeavesTable (zeros_at (F.image flash.old) place 128) (zeros_at (F.image flash.new) place 128) table need) }
     ensures need { OnSpace result (λ need. need ≡ file.now.pages) }
     ensures inside { IfOk result (λ page. page.0 + file.now.pages ≤ pages_of (F.image flash.new)) }
     ensures cut { IsTrue F.tells → IsTrue F.cuts → IsErrOf result FileError.Failed

@@ -8,7 +8,7 @@ ghost use Rattle.coffee_layout.specs.Units.{pages_of};
 ghost use Rattle.coffee_merge.specs.CutMarks.{IsCutReplace};
 ghost use Rattle.coffee_merge.specs.Flags.{flagged, obsoleted};
 ghost use Rattle.coffee_merge.specs.Holding.{Entries, has_shape};
-ghost use Rattle.coffee_mend.specs.Joined.{HidesRecord, LeavesFiles};
+ghost use Rattle.coffee_mend.specs.Joined.{HidesRecord, LeavesTable};
 ghost use Rattle.coffee_mend.specs.Mended.{IsSoundAs, MendsLike};
 
 use crate::drafting::{begin_draft, copy_content};
@@ -31,7 +31,7 @@ pub(crate) fn join_file<F: Flash>(
         → file.now.log ≡ Some log → IsSoundAs (zeros_at (F.image flash.old) place 128) (F.image flash.new)) }
     ensures left { IsTrue F.tells → OnSpace result
         (λ need. (table : Entries) (i place : ℕ) → HidesRecord (F.image flash.old) table None i file.now place
-        → LeavesFiles (zeros_at (F.image flash.old) place 128) (zeros_at (F.image flash.new) place 128) table need) }
+        → LeavesTable (zeros_at (F.image flash.old) place 128) (zeros_at (F.image flash.new) place 128) table need) }
     ensures need { OnSpace result (λ need. need ≡ file.now.pages) }
     ensures cut { IsTrue F.tells → IsTrue F.cuts → IsErrOf result FileError.Failed
         → (table : Entries) (i place : ℕ) → HidesRecord (F.image flash.old) table None i file.now place

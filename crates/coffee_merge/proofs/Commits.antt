@@ -1,5 +1,6 @@
 -- What VALID in the header of a draft, and OBSOLETE in those of a file and its log, make of a table.
 use Rattle.std.proofs.Common.{◌≡◌, ◌≢◌, ℕ, ◌-◌, ◌≤◌, ◌<◌, true, List, length, get_or, Some, None, refl, ap, sym, subst, ◌∙◌, bit_or}
+use Rattle.coffee_merge.proofs.Logged.{in_same as one_entry}
 use Rattle.padded.proofs.Facts.{some_same}
 use Rattle.afl_base.specs.declared.ids.PageId.{PageId}
 use Rattle.coffee_layout.specs.FileBytes.{file_byte}
@@ -15,9 +16,6 @@ use Rattle.coffee_merge.proofs.Kept.{body_byte}
 use Rattle.coffee_merge.proofs.Marked.{Reflags, flagged_extent}
 use Rattle.coffee_merge.proofs.Retired.{Retires, only_one, only_then, retires}
 use Rattle.coffee_merge.proofs.Turned.{EndsWith, IsNewTo, Turned, draft_body, file_and_draft, turned_sets}
-
-one_entry : (table : Entries) (i : ℕ) (e f : FileAt) → IsIn table i e → IsIn table i f → e ≡ f
-one_entry table i e f is other = some_same e f (sym is ∙ other)
 
 -- A FILE THAT IS OBSOLETE
 

@@ -5,6 +5,7 @@ use Rattle.std.proofs.lemmas.Bool.{cases_lt}
 use Rattle.afl_base.specs.Image.{or_at}
 use Rattle.afl_base.specs.declared.ids.PageId.{PageId}
 use Rattle.afl_base.proofs.Images.{length_or_at}
+use Rattle.coffee_merge.proofs.Logged.{in_same as one_entry}
 use Rattle.flash_range.specs.Range.{Outside}
 use Rattle.flash_range.proofs.Ranges.{or_on_zero, or_outside}
 use Rattle.coffee_header.specs.declared.header.Header.{Header}
@@ -198,12 +199,6 @@ record HadName (table : Entries) (k : ℕ) (d : FileAt) : Type 0 where
 -- the entry after a change of the file's bytes
 abbrev pub resized : FileAt → (used size : ℕ) → FileAt
 resized e used size = record e { used = used; size = size }
-
-one_entry : (table : Entries) (i : ℕ) (e d : FileAt) → IsIn table i e → IsIn table i d → e ≡ d
-one_entry table i e d a b = some_same e d (sym a ∙ b)
-  where
-    some_same : (e d : FileAt) → Some e ≡ Some d → e ≡ d
-    some_same e d h = cc
 
 few_used : (image : List ℕ) (log : Option PageId) (page pages used size : ℕ) → IsFile image page pages log used size → (log ≡ None → used ≡ 0) → used ≤ 30
 few_used image None page pages used size is none = let z = none refl in omega arith

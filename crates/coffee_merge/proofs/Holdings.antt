@@ -42,7 +42,7 @@ file_not_log : (log : Option PageId) → file_flags log ≡ 19 → ⊥
 file_not_log None e = absurd (omega arith)
 file_not_log (Some l) e = absurd (omega arith)
 
-file_not_draft : (log : Option PageId) → file_flags log ≡ 2 → ⊥
+pub file_not_draft : (log : Option PageId) → file_flags log ≡ 2 → ⊥
 file_not_draft None e = absurd (omega arith)
 file_not_draft (Some l) e = absurd (omega arith)
 

@@ -86,7 +86,7 @@ has_log old one new table i e log h is none low good small first second =
 
 -- CONTENTS
 
-in_same : (table : Entries) (i : ℕ) (e d : FileAt) → IsIn table i e → IsIn table i d → e ≡ d
+pub in_same : (table : Entries) (i : ℕ) (e d : FileAt) → IsIn table i e → IsIn table i d → e ≡ d
 in_same table i e d is at = one (sym is ∙ at)
   where
     one : Some e ≡ Some d → e ≡ d

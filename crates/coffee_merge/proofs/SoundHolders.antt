@@ -3,6 +3,7 @@ use Rattle.std.proofs.Common.{◌≡◌, ◌⊎◌, inl, inr, ℕ, suc, ◌+◌,
 use Rattle.std.specs.List.{filter, list_any}
 use Rattle.std.proofs.lemmas.Bool.{not-true, not_from_false}
 use Rattle.std.proofs.lemmas.List.Folds.{list_any_at}
+use Rattle.coffee_merge.proofs.Retired.{file_not_log as file_no_log}
 use Rattle.padded.proofs.Facts.{both_parts, some_same, true_or_false, true_eq, eq_true}
 use Rattle.afl_base.specs.declared.ids.PageId.{PageId}
 use Rattle.afl_base.specs.declared.kind.Kind.{Kind}
@@ -115,10 +116,6 @@ holder image table page h holds active = ⊎_elim
     (extent_read page by.entry by.extent))
     (λ (no : has_extent_at page None ≡ true). cc)
     (held_by table None page (holds.only page h active))
-
-file_no_log : (log : Option PageId) → file_flags log ≡ 19 → ⊥
-file_no_log None e = absurd (omega arith)
-file_no_log (Some l) e = absurd (omega arith)
 
 pub file_is : (log : Option PageId) → (file_flags log == 3 || file_flags log == 11) ≡ true
 file_is None = refl

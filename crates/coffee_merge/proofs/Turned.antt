@@ -10,8 +10,8 @@ use Rattle.coffee_layout.specs.declared.file.FileAt.{FileAt}
 use Rattle.coffee_layout.proofs.Tilings.{unbroken_tiled}
 use Rattle.coffee_log.specs.FileChanges.{IsFile}
 use Rattle.coffee_merge.specs.Begun.{active_at}
-use Rattle.coffee_merge.specs.Holding.{Entries, HoldsTable, IsDrafted, IsIn, IsStored, Sets, draft_header, file_flags, file_header, has_extent_at, is_held, log_header}
-use Rattle.coffee_merge.proofs.Holdings.{LogAt, draft_unit, extent_here, extent_read, file_unit, held_draft, held_in, held_set, holds_pages, is_in_set, log_here, log_unit}
+use Rattle.coffee_merge.specs.Holding.{Entries, HoldsTable, IsDrafted, IsIn, IsStored, Sets, draft_header, file_header, has_extent_at, is_held, log_header}
+use Rattle.coffee_merge.proofs.Holdings.{LogAt, draft_unit, extent_here, extent_read, file_not_draft as file_done, file_unit, held_draft, held_in, held_set, holds_pages, is_in_set, log_here, log_unit}
 use Rattle.coffee_merge.proofs.Kept.{KeepsBody, body_byte, body_content, body_drafted, body_stored}
 use Rattle.coffee_merge.proofs.Retired.{OnlyFlags, body_flags}
 use Rattle.padded.proofs.Facts.{true_or_false}
@@ -40,10 +40,6 @@ record HeldHeader (image : List ℕ) (e : FileAt) (q : ℕ) : Type 0 where
   active : active_at (units_of image) q ≡ Some header
   name : header.name ≡ e.name
   done : header.flags ≢ 2
-
-file_done : (log : Option PageId) → file_flags log ≡ 2 → ⊥
-file_done None e = absurd (omega arith)
-file_done (Some l) e = absurd (omega arith)
 
 held_header : (image : List ℕ) (table : Entries) (draft : Option FileAt) (i : ℕ) (e : FileAt) (q : ℕ) → HoldsTable image table draft → IsIn table i e → has_extent_at q (Some e) ≡ true → HeldHeader image e q
 held_header image table draft i e q h is t =

@@ -20,7 +20,7 @@ use Rattle.coffee_space.proofs.SectorMarks.{Marked, Marking, is_used, marked_nex
 use Rattle.coffee_space.proofs.Walks.{Ahead, read_same, stands}
 use Rattle.coffee_layout.proofs.FreeBlocks.{mark_front, mark_behind, not_both}
 
-or_false : (b : Bool) → b || false ≡ b
+pub or_false : (b : Bool) → b || false ≡ b
 or_false true = refl
 or_false false = refl
 

@@ -14,11 +14,12 @@ use Rattle.coffee_merge.specs.TableFiles.{file_of}
 use Rattle.coffee_merge.proofs.SoundFiles.{entry_file, file_entry}
 use Rattle.coffee_merge.proofs.SoundImages.{held_sound}
 use Rattle.coffee_merge.proofs.SoundTables.{sound_held, sound_sparing}
+use Rattle.coffee_volume.proofs.States.{none_drafted as no_draft}
+use Rattle.coffee_volume.proofs.Stepped.{roomless_room as no_room}
 use Rattle.coffee_volume.specs.Mounting.{KeepFileRules, MayBeListed, mounted_table, roomless_file}
-use Rattle.coffee_volume.specs.Rooms.{HasEntryRoom}
 use Rattle.coffee_volume.specs.Volumes.{AreRegular, EntryTable, draft_seen, file_seen, files_seen, places, roomless}
 use Rattle.coffee_volume.specs.declared.entry.Entry.{Entry}
-use Rattle.coffee_volume.proofs.Tables.{entry_of_place, entry_seen, file_of as file_of_entry, in_places, length_places, regular_new, seen_is, seen_live, told_by}
+use Rattle.coffee_volume.proofs.Tables.{entry_of_place, entry_seen, file_of as file_of_entry, in_places, length_places, of_name as named_entry, regular_new, seen_is, seen_live, told_by}
 
 -- PLACES
 
@@ -95,10 +96,6 @@ mounted_rooms tells image table files id is =
 
 -- RULES
 
-named_entry : (o : Option Entry) (n : List ℕ) → option_map (λ (e : Entry). e.at.name) o ≡ Some n → (e : Entry) × (o ≡ Some e) × (e.at.name ≡ n)
-named_entry None n same = absurd (cc)
-named_entry (Some e) n same = (e, refl, cc)
-
 place_in : (files : List FileAt) (k : ℕ) (at : FileAt) → k < length files → get_or files k at ≡ at → IsIn (places (mounted_table files)) k at
 place_in files k at low is = in_places (mounted_table files) k (roomless at) (in_entry files (32 - length files) k at low ∙ ap (λ (f : FileAt). Some (roomless f)) is)
 
@@ -116,15 +113,6 @@ may_follow files i at keep low is = record {
       absurd (omega arith);
   shape = keep.shapes i at (place_in files i at low is);
   few = keep.few i at (place_in files i at low is);
-}
-
-no_room : (pages : ℕ) (at : FileAt) → FitsIn pages at → HasEntryRoom (roomless at)
-no_room pages at fits = record {
-  no_log = λ none. refl;
-  free = omega (arith, fits.used);
-  spare = λ l is some. absurd (omega arith);
-  fits = omega (arith, fits.size);
-  small = λ some. absurd (omega arith);
 }
 
 pub regular_none : (pages n : ℕ) → AreRegular pages (replicate n None)
@@ -156,10 +144,6 @@ mounted_keep image files are sound whole =
     }
 
 -- THE IMAGE OF A VOLUME THAT IS UNMOUNTED
-
-no_draft : (tells : Bool) (image : List ℕ) (draft : Option FileAt) → option_map (draft_seen tells image) draft ≡ None → draft ≡ None
-no_draft tells image None none = refl
-no_draft tells image (Some d) none = cc
 
 -- the table holds the image where no call failed and no draft is begun
 pub idle_holds : (tells failed : Bool) (image : List ℕ) (table : EntryTable) (draft : Option FileAt) → (IsTrue tells → failed ≡ false → HoldsTable image (places table) draft)

@@ -98,7 +98,7 @@ seen_distinct tells image pages table regular i j n first second =
     regular.names i j e.0 d.0 e.1 d.1 (e.2 ∙ sym d.2)
 
 -- the entry that has a name
-of_name : (o : Option Entry) (n : List ℕ) → option_map (λ (e : Entry). e.at.name) o ≡ Some n → (e : Entry) × (o ≡ Some e) × (e.at.name ≡ n)
+pub of_name : (o : Option Entry) (n : List ℕ) → option_map (λ (e : Entry). e.at.name) o ≡ Some n → (e : Entry) × (o ≡ Some e) × (e.at.name ≡ n)
 of_name None n is = absurd (cc)
 of_name (Some e) n is = (e, refl, cc)
 

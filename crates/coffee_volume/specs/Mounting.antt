@@ -85,7 +85,7 @@ pub record HasMountCause {F : Type 0} (before now : ℕ) (error : MountError F) 
   pub failed : OnFailed error (Rose before now)
 
 -- the table of an image: where it is told, that of its files
-pub record IsListed (tells : Bool) (image : List ℕ) (table : EntryTable) : Type 0 where
+pub record IsImageTable (tells : Bool) (image : List ℕ) (table : EntryTable) : Type 0 where
   pub files : List FileAt
   pub few : length files ≤ 32
   pub table_is : table ≡ mounted_table files
@@ -94,11 +94,11 @@ pub record IsListed (tells : Bool) (image : List ℕ) (table : EntryTable) : Typ
   pub sound : IsTrue tells → broken_image image ≡ None
 
 -- P of the broken rule, where that is the reason
-abbrev pub OnBad : Unlisted → (BadImage → Type 0) → Type 0
-OnBad (NotSound bad) P = P bad
-OnBad Unread P = ⊤
+abbrev pub OnBrokenImage : Unlisted → (BadImage → Type 0) → Type 0
+OnBrokenImage (NotSound bad) P = P bad
+OnBrokenImage Unread P = ⊤
 
 -- P, where the reason is that the flash failed
-abbrev pub OnFault : Unlisted → Type 0 → Type 0
-OnFault (NotSound bad) P = ⊤
-OnFault Unread P = P
+abbrev pub OnFlashFault : Unlisted → Type 0 → Type 0
+OnFlashFault (NotSound bad) P = ⊤
+OnFlashFault Unread P = P

@@ -9,7 +9,7 @@ ghost use Rattle.coffee_layout.specs.Tiling.{units_of};
 ghost use Rattle.coffee_layout.specs.Units.{pages_of};
 ghost use Rattle.coffee_merge.specs.Holding.{has_shape};
 ghost use Rattle.coffee_volume.specs.Asking.{AsksOf};
-ghost use Rattle.coffee_volume.specs.Mounting.{HasEach, HasMountCause, HasOnly, HaveNoRoom, IsListed, KeepFileRules, MayBeListed, OnBad, OnBadImage, OnFault, WhereIdle, flash_of, mounted_state, mounted_table};
+ghost use Rattle.coffee_volume.specs.Mounting.{HasEach, HasMountCause, HasOnly, HaveNoRoom, IsImageTable, KeepFileRules, MayBeListed, OnBrokenImage, OnBadImage, OnFlashFault, WhereIdle, flash_of, mounted_state, mounted_table};
 ghost use Rattle.coffee_volume.specs.Volumes.{AreRegular, places};
 
 use crate::entry::EntryTable;
@@ -45,15 +45,15 @@ pub enum Unlisted {
 /// page of the flash. Nothing is written, where it fails too.
 pub fn list<F: Flash>(flash: &mut F) -> Result<Listed, Unlisted>
     ensures sound { IsTrue F.tells → OnOk result (broken_image (F.image flash.old) ≡ None) }
-    ensures listed { IfOk result (λ l. IsListed F.tells (F.image flash.old) l.table) }
+    ensures listed { IfOk result (λ l. IsImageTable F.tells (F.image flash.old) l.table) }
     ensures bad { IsTrue F.tells
-        → IfErr result (λ e. OnBad e (λ bad. broken_image (F.image flash.old) ≡ Some bad)) }
+        → IfErr result (λ e. OnBrokenImage e (λ bad. broken_image (F.image flash.old) ≡ Some bad)) }
     ensures same { F.image flash.new ≡ F.image flash.old }
     ensures lent { F.lent flash.new ≡ F.lent flash.old }
     ensures reads { F.reads flash.new ≤ F.reads flash.old + 448 * pages_of (F.image flash.old) }
     ensures reads_later { F.reads flash.old ≤ F.reads flash.new }
     ensures later { F.faults flash.old ≤ F.faults flash.new }
-    ensures cause { IfErr result (λ e. OnFault e (Rose (F.faults flash.old) (F.faults flash.new))) }
+    ensures cause { IfErr result (λ e. OnFlashFault e (Rose (F.faults flash.old) (F.faults flash.new))) }
 {
     flash.sectors();
     let mut listed = coffee_layout::Table::new();
@@ -120,7 +120,7 @@ impl<F: Flash> Volume<F> {
 
     /// The files of a flash that were listed.
     pub fn over(flash: F, listed: Listed) -> Volume<F>
-        requires listed { IsListed F.tells (F.image flash) listed.table }
+        requires listed { IsImageTable F.tells (F.image flash) listed.table }
         ensures files { IsTrue F.tells → ⟦<Self as Files>⟧.state result ≡ mounted_state (F.image flash) }
         ensures tells { (⟦<Self as Files>⟧.state result).tells ≡ F.tells }
         ensures idle { (⟦<Self as Files>⟧.state result).draft ≡ None }

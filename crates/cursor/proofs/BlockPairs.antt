@@ -12,14 +12,14 @@ use Rattle.db_model.specs.Row.{Row, no_row}
 use Rattle.tuple_file.specs.Tuples.{rows}
 use Rattle.cursor.specs.declared.block.Block.{Block}
 use Rattle.cursor.specs.declared.join.JoinCursor.{JoinCursor}
-use Rattle.cursor.specs.Blocks.{FindsSlot, HasRead, IsBlockFor, PairsInBlock, PaysInBlock, StandsFor, at_next_row, behind_slot, cost_in_blocks, number_held, number_in, number_of}
-use Rattle.cursor.specs.Pairs.{MayReadPairs, belongs, lefts_of, pairs_left, partners, right_side_cost, right_side_costs}
+use Rattle.cursor.specs.Blocks.{FindsSlot, HasMetRights, IsBlockFor, PairsInBlock, PaysInBlock, StandsFor, at_next_row, behind_slot, cost_in_blocks, number_held, number_of_row, number_of_value}
+use Rattle.cursor.specs.Pairs.{MayReadPairs, belongs, lefts_of, pairs_left, partner_slots, right_side_cost, right_side_costs}
 use Rattle.cursor.proofs.Joins.{first_costs, no_live, one_cost, right_found, right_none, stands_at}
 use Rattle.cursor.proofs.Suited.{count_rows}
 
 -- ---- a left row by what is held of it
 
-value_of : (o : Option Value) (z : ℤ) → number_of o ≡ Some z → o ≡ Some (Number z)
+value_of : (o : Option Value) (z : ℤ) → number_of_value o ≡ Some z → o ≡ Some (Number z)
 value_of None z e = absurd (cc)
 value_of (Some (Text bytes)) z e = absurd (cc)
 value_of (Some (Number y)) z e =
@@ -34,16 +34,16 @@ is_there : (b : Bool) (o : Option ℤ) (z : ℤ) → cond b o None ≡ Some z �
 is_there true o z e = e
 is_there false o z e = absurd (cc)
 
-live_one : (r : Row) (place : ℕ) (z : ℤ) → number_in place r ≡ Some z → r ≡ record { tuple = r.tuple; live = true }
-live_one r place z e = ap (λ (b : Bool). record { tuple = r.tuple; live = b }) (is_live r.live (number_of (slice_get r.tuple place)) z e)
+live_one : (r : Row) (place : ℕ) (z : ℤ) → number_of_row place r ≡ Some z → r ≡ record { tuple = r.tuple; live = true }
+live_one r place z e = ap (λ (b : Bool). record { tuple = r.tuple; live = b }) (is_live r.live (number_of_value (slice_get r.tuple place)) z e)
 
-value_there : (r : Row) (place : ℕ) (z : ℤ) → number_in place r ≡ Some z → slice_get r.tuple place ≡ Some (Number z)
-value_there r place z e = value_of (slice_get r.tuple place) z (is_there r.live (number_of (slice_get r.tuple place)) z e)
+value_there : (r : Row) (place : ℕ) (z : ℤ) → number_of_row place r ≡ Some z → slice_get r.tuple place ≡ Some (Number z)
+value_there r place z e = value_of (slice_get r.tuple place) z (is_there r.live (number_of_value (slice_get r.tuple place)) z e)
 
 no_slot : (slot : ℕ) → Some slot ≡ None → ⊥
 no_slot slot e = absurd (cc)
 
-module _ (b : Block) (c : JoinCursor) (lefts rights : List Row) (for : IsBlockFor b c) (read : HasRead b c lefts rights) (here : c.at < c.left_slots) (inside : c.at < b.end)
+module _ (b : Block) (c : JoinCursor) (lefts rights : List Row) (for : IsBlockFor b c) (read : HasMetRights b c lefts rights) (here : c.at < c.left_slots) (inside : c.at < b.end)
     (many : c.left_slots ≤ length lefts) (few : c.right_slots ≤ length rights) where
   -- what the right side of the left row costs
   abbrev cost_here : ℕ
@@ -77,13 +77,13 @@ module _ (b : Block) (c : JoinCursor) (lefts rights : List Row) (for : IsBlockFo
   pairs_by (Some z) is None left right finds below there row =
       let t = (get_or lefts c.at no_row).tuple in
       right_none c lefts rights t (alive z is) order few
-      (subst (λ (v : Option Value). partners (belongs v c.right_on) rights c.from c.right_slots ≡ []) (sym (value_held z is)) finds)
+      (subst (λ (v : Option Value). partner_slots (belongs v c.right_on) rights c.from c.right_slots ≡ []) (sym (value_held z is)) finds)
   pairs_by (Some z) is (Some slot) left right finds below there row =
       let t = (get_or lefts c.at no_row).tuple in
       let same : t ≡ left = ap (λ (r : Row). r.tuple) row in
       subst (λ (x : List Value). pairs_left c lefts rights ≡ (x, right) ∷ pairs_left (behind_slot c slot) lefts rights) same
       (right_found c lefts rights t (alive z is) order few slot right c.inner
-      (subst (λ (v : Option Value). partners (belongs v c.right_on) rights c.from c.right_slots ≡ slot ∷ partners (belongs v c.right_on) rights (slot + 1) c.right_slots) (sym (value_held z is)) finds)
+      (subst (λ (v : Option Value). partner_slots (belongs v c.right_on) rights c.from c.right_slots ≡ slot ∷ partner_slots (belongs v c.right_on) rights (slot + 1) c.right_slots) (sym (value_held z is)) finds)
       below there)
 
   pub block_pairs : (found : Option ℕ) (left right : List Value) → FindsSlot found (number_held b (c.at - b.begin)) c.right_on rights c.from c.right_slots
@@ -93,7 +93,7 @@ module _ (b : Block) (c : JoinCursor) (lefts rights : List Row) (for : IsBlockFo
 
   -- a left row that has a partner is live
   live_by : (held : Option ℤ) → StandsFor held c.left_on (get_or lefts c.at no_row) → (slot : ℕ) → FindsSlot (Some slot) held c.right_on rights c.from c.right_slots
-      → (found : Option ℤ) → found ≡ number_in c.left_on (get_or lefts c.at no_row) → (left : List Value) → IfSome found (λ _. get_or lefts c.at no_row ≡ record { tuple = left; live = true })
+      → (found : Option ℤ) → found ≡ number_of_row c.left_on (get_or lefts c.at no_row) → (left : List Value) → IfSome found (λ _. get_or lefts c.at no_row ≡ record { tuple = left; live = true })
       → get_or lefts c.at no_row ≡ record { tuple = left; live = true }
   live_by None is slot finds found e left row = absurd (no_slot slot finds)
   live_by (Some z) is slot finds None e left row = let no : None ≡ Some z = e ∙ is.number in absurd (cc)
@@ -105,7 +105,7 @@ module _ (b : Block) (c : JoinCursor) (lefts rights : List Row) (for : IsBlockFo
   live_row (Some z) is slot finds = live_one (get_or lefts c.at no_row) c.left_on z is.number
 
   pub left_read : (slot : ℕ) → FindsSlot (Some slot) (number_held b (c.at - b.begin)) c.right_on rights c.from c.right_slots
-      → (found : Option ℤ) → found ≡ number_in c.left_on (get_or lefts c.at no_row) → (left : List Value) → IfSome found (λ _. get_or lefts c.at no_row ≡ record { tuple = left; live = true })
+      → (found : Option ℤ) → found ≡ number_of_row c.left_on (get_or lefts c.at no_row) → (left : List Value) → IfSome found (λ _. get_or lefts c.at no_row ≡ record { tuple = left; live = true })
       → get_or lefts c.at no_row ≡ record { tuple = left; live = true }
   left_read slot finds found e left row = live_by (number_held b (c.at - b.begin)) row_held slot finds found e left row
 

@@ -9,7 +9,7 @@ use Rattle.index_set.specs.Tables.{Tables}
 use Rattle.tuple_file.specs.Tuples.{rows}
 use Rattle.cursor.specs.declared.block.Block.{Block}
 use Rattle.cursor.specs.declared.join.JoinCursor.{JoinCursor}
-use Rattle.cursor.specs.Blocks.{HasRead, IsBlockFor, IsBlockOf, YieldsByBlock, at_next_row, behind_slot, cost_by_block, cost_in_blocks}
+use Rattle.cursor.specs.Blocks.{HasMetRights, IsBlockFor, IsBlockOf, YieldsByBlock, at_next_row, behind_slot, cost_by_block, cost_in_blocks}
 use Rattle.cursor.specs.Pairs.{FitsInner, FitsPairs, HasAhead, MayReadPairs, belongs, join_cost_ahead, pairs_left}
 use Rattle.cursor.proofs.Joins.{all_passed}
 
@@ -74,7 +74,7 @@ module _ (b new : Block) (c : JoinCursor) (kept : new ≡ record b { seen = new.
 -- it has come to another place and has passed no pair
 pub record Blocking (state : State) (tables : Tables) (b b_now : Block) (before now : JoinCursor) (reads reads_now : ℕ) : Type 0 where
   pub fits : FitsPairs now state tables
-  pub read : HasRead b_now now (rows state.files before.left) (rows state.files before.right)
+  pub read : HasMetRights b_now now (rows state.files before.left) (rows state.files before.right)
   pub left : pairs_left before (rows state.files before.left) (rows state.files before.right) ≡ pairs_left now (rows state.files before.left) (rows state.files before.right)
   pub few : reads_now + cost_in_blocks b_now now (rows state.files before.left) (rows state.files before.right) ≤ reads + cost_in_blocks b before (rows state.files before.left) (rows state.files before.right)
 
@@ -86,7 +86,7 @@ served b c lefts rights e = cost_served b.serves (cost_in_blocks b c lefts right
     cost_served false x y e = absurd (cc)
 
 module _ (state : State) (tables : Tables) (b b_now b_taken b_new : Block) (before now : JoinCursor) (reads r1 r2 r3 : ℕ) (walk : Blocking state tables b b_now before now reads r1) (rests : now.inner ≡ None)
-    (read : HasRead b_new now (rows state.files before.left) (rows state.files before.right))
+    (read : HasMetRights b_new now (rows state.files before.left) (rows state.files before.right))
     (taken : r2 + 6 * (now.left_slots - b_taken.end) ≤ r1 + 6 * (now.left_slots - b_now.end))
     (kept : b_new ≡ record b_taken { seen = b_new.seen; firsts = b_new.firsts; ends = b_new.ends }) where
   abbrev lefts : List Row
@@ -137,7 +137,7 @@ module _ (state : State) (tables : Tables) (b b_now : Block) (before now : JoinC
   pub take_fails : (r2 : ℕ) → b.serves ≡ true → r2 ≤ r1 + 6 * (now.left_slots - b_now.end) → r2 ≤ reads + cost_by_block b before (rows state.files before.left) (rows state.files before.right)
   take_fails r2 serves paid = omega (arith, walk.few, paid, served b before (rows state.files before.left) (rows state.files before.right) serves)
 
-pub walk_begins : (state : State) (tables : Tables) (b : Block) (c : JoinCursor) (reads : ℕ) → FitsPairs c state tables → HasRead b c (rows state.files c.left) (rows state.files c.right) → Blocking state tables b b c c reads reads
+pub walk_begins : (state : State) (tables : Tables) (b : Block) (c : JoinCursor) (reads : ℕ) → FitsPairs c state tables → HasMetRights b c (rows state.files c.left) (rows state.files c.right) → Blocking state tables b b c c reads reads
 walk_begins state tables b c reads fits read = record { fits = fits; read = read; left = refl; few = omega arith }
 
 -- ---- without blocks

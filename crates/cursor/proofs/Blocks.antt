@@ -18,8 +18,8 @@ use Rattle.tuple_file.specs.declared.tuples.Tuples.{Tuples}
 use Rattle.tuple_file.specs.Column.{IsNumber, is_number}
 use Rattle.tuple_file.specs.Tuples.{row, rows, slots}
 use Rattle.cursor.specs.declared.block.Block.{Block}
-use Rattle.cursor.specs.Blocks.{HasMet, HoldsLefts, LiesIn, StandsFor, number_held, number_in, number_of}
-use Rattle.cursor.specs.Pairs.{belongs, partners}
+use Rattle.cursor.specs.Blocks.{HasMet, HoldsLefts, LiesBetween, StandsFor, number_held, number_of_row, number_of_value}
+use Rattle.cursor.specs.Pairs.{belongs, partner_slots}
 use Rattle.cursor.specs.Remaining.{is_live_and, passing}
 use Rattle.cursor.proofs.Lists.{kept, passed_over}
 use Rattle.cursor.proofs.Walking.{row_there}
@@ -39,7 +39,7 @@ on_none (Some x) p = tt
 
 -- ---- numbers of rows
 
-number_suits : (d : Domain) (v : Value) → suits d v ≡ true → is_number d ≡ true → number_of (Some v) ≡ None → ⊥
+number_suits : (d : Domain) (v : Value) → suits d v ≡ true → is_number d ≡ true → number_of_value (Some v) ≡ None → ⊥
 number_suits d (Number z) s n e = absurd (cc)
 number_suits Int (Text bytes) s n e = absurd (cc)
 number_suits Long (Text bytes) s n e = absurd (cc)
@@ -47,7 +47,7 @@ number_suits Time (Text bytes) s n e = absurd (cc)
 number_suits (Str k) (Text bytes) s n e = absurd (cc)
 
 -- a tuple has a number at each place of numbers
-has_number : (attributes : List Attribute) (tuple : List Value) (place : ℕ) → AllSuit attributes tuple → IsNumber attributes place → number_of (slice_get tuple place) ≡ None → ⊥
+has_number : (attributes : List Attribute) (tuple : List Value) (place : ℕ) → AllSuit attributes tuple → IsNumber attributes place → number_of_value (slice_get tuple place) ≡ None → ⊥
 has_number [] tuple place s n e = absurd (cc)
 has_number (a ∷ attributes) [] place s n e = absurd (s)
 has_number (a ∷ attributes) (v ∷ tuple) zero s n e = number_suits a.domain v s.0 n e
@@ -58,14 +58,14 @@ module _ (files : Table) (t : Tuples) (slot place : ℕ) (below : slot < slots f
   there = row_there t.schema.attributes (bytes_at files t.file) slot below
 
   pub number_read : (tuple : List Value) (live : Bool) → row files t slot ≡ record { tuple = tuple; live = live } → live ≡ true
-      → number_of (slice_get tuple place) ≡ number_in place (get_or (rows files t) slot no_row)
+      → number_of_value (slice_get tuple place) ≡ number_of_row place (get_or (rows files t) slot no_row)
   number_read tuple live is alive =
-      sym (ap (number_in place) (there ∙ is ∙ ap (λ (b : Bool). record { tuple = tuple; live = b }) alive))
+      sym (ap (number_of_row place) (there ∙ is ∙ ap (λ (b : Bool). record { tuple = tuple; live = b }) alive))
 
   pub number_missing : (tuple : List Value) (live : Bool) → row files t slot ≡ record { tuple = tuple; live = live } → live ≡ false
-      → None ≡ number_in place (get_or (rows files t) slot no_row)
+      → None ≡ number_of_row place (get_or (rows files t) slot no_row)
   number_missing tuple live is dead =
-      sym (ap (number_in place) (there ∙ is ∙ ap (λ (b : Bool). record { tuple = tuple; live = b }) dead))
+      sym (ap (number_of_row place) (there ∙ is ∙ ap (λ (b : Bool). record { tuple = tuple; live = b }) dead))
 
   pub live_there : (tuple : List Value) (live : Bool) → row files t slot ≡ record { tuple = tuple; live = live } → live ≡ true
       → get_or (rows files t) slot no_row ≡ record { tuple = tuple; live = true }
@@ -75,7 +75,7 @@ module _ (files : Table) (t : Tuples) (slot place : ℕ) (below : slot < slots f
       → (get_or (rows files t) slot no_row).live ≡ false
   removed_there tuple live is dead = ap (λ (r : Row). r.live) (there ∙ is) ∙ dead
 
-pub numbers_suit : (attributes : List Attribute) (tuple : List Value) (place : ℕ) (dead : Bool) → AllSuit attributes tuple → IsNumber attributes place → number_of (slice_get tuple place) ≡ None → dead ≡ false
+pub numbers_suit : (attributes : List Attribute) (tuple : List Value) (place : ℕ) (dead : Bool) → AllSuit attributes tuple → IsNumber attributes place → number_of_value (slice_get tuple place) ≡ None → dead ≡ false
 numbers_suit attributes tuple place dead s n e = absurd (has_number attributes tuple place s n e)
 
 -- ---- rows with a number
@@ -85,13 +85,13 @@ other_number false z y e h = refl
 other_number true z y e h = absurd (h (ap (λ (x : ℤ). Some x) (sym ((Decides-int_eq z y).0 e))))
 
 module _ (z : ℤ) (place : ℕ) where
-  not_same : (b : Bool) (o : Option Value) → (cond b (number_of o) None ≡ Some z → ⊥) → b && same_value (Some (Number z)) o ≡ false
+  not_same : (b : Bool) (o : Option Value) → (cond b (number_of_value o) None ≡ Some z → ⊥) → b && same_value (Some (Number z)) o ≡ false
   not_same false o h = refl
   not_same true None h = refl
   not_same true (Some (Text bytes)) h = refl
   not_same true (Some (Number y)) h = other_number (int_eq z y) z y refl h
 
-  is_same : (b : Bool) (o : Option Value) → cond b (number_of o) None ≡ Some z → b && same_value (Some (Number z)) o ≡ true
+  is_same : (b : Bool) (o : Option Value) → cond b (number_of_value o) None ≡ Some z → b && same_value (Some (Number z)) o ≡ true
   is_same false o h = absurd (cc)
   is_same true None h = absurd (cc)
   is_same true (Some (Text bytes)) h = absurd (cc)
@@ -99,10 +99,10 @@ module _ (z : ℤ) (place : ℕ) where
       let e : y ≡ z = cc in
       (Decides-int_eq z y).1 (sym e)
 
-  pub no_partner : (r : Row) → (number_in place r ≡ Some z → ⊥) → is_live_and (belongs (Some (Number z)) place) r ≡ false
+  pub no_partner : (r : Row) → (number_of_row place r ≡ Some z → ⊥) → is_live_and (belongs (Some (Number z)) place) r ≡ false
   no_partner r h = not_same r.live (slice_get r.tuple place) h
 
-  pub one_partner : (r : Row) → number_in place r ≡ Some z → is_live_and (belongs (Some (Number z)) place) r ≡ true
+  pub one_partner : (r : Row) → number_of_row place r ≡ Some z → is_live_and (belongs (Some (Number z)) place) r ≡ true
   one_partner r h = is_same r.live (slice_get r.tuple place) h
 
 -- ---- the slots of partners
@@ -113,52 +113,52 @@ module _ (test : List Value → Bool) (rights : List Row) (n : ℕ) where
       let e : n - a ≡ suc (n - (a + 1)) = omega arith in
       ap (range_with_len a) e
 
-  pub partner_passed : (a : ℕ) → a < n → is_live_and test (get_or rights a no_row) ≡ false → partners test rights a n ≡ partners test rights (a + 1) n
+  pub partner_passed : (a : ℕ) → a < n → is_live_and test (get_or rights a no_row) ≡ false → partner_slots test rights a n ≡ partner_slots test rights (a + 1) n
   partner_passed a less e =
       ap (passing test rights) (first_slot a less)
-      ∙ passed_over (is_live_and test (get_or rights a no_row)) a (partners test rights (a + 1) n) e
+      ∙ passed_over (is_live_and test (get_or rights a no_row)) a (partner_slots test rights (a + 1) n) e
 
-  pub partner_found : (a : ℕ) → a < n → is_live_and test (get_or rights a no_row) ≡ true → partners test rights a n ≡ a ∷ partners test rights (a + 1) n
+  pub partner_found : (a : ℕ) → a < n → is_live_and test (get_or rights a no_row) ≡ true → partner_slots test rights a n ≡ a ∷ partner_slots test rights (a + 1) n
   partner_found a less e =
       ap (passing test rights) (first_slot a less)
-      ∙ kept (is_live_and test (get_or rights a no_row)) a (partners test rights (a + 1) n) e
+      ∙ kept (is_live_and test (get_or rights a no_row)) a (partner_slots test rights (a + 1) n) e
 
-  pub partners_passed : (k a : ℕ) → a + k ≤ n → ((s : ℕ) → a ≤ s → s < a + k → is_live_and test (get_or rights s no_row) ≡ false) → partners test rights a n ≡ partners test rights (a + k) n
+  pub partners_passed : (k a : ℕ) → a + k ≤ n → ((s : ℕ) → a ≤ s → s < a + k → is_live_and test (get_or rights s no_row) ≡ false) → partner_slots test rights a n ≡ partner_slots test rights (a + k) n
   partners_passed zero a fits none =
       let e : a ≡ a + 0 = omega arith in
-      ap (λ (m : ℕ). partners test rights m n) e
+      ap (λ (m : ℕ). partner_slots test rights m n) e
   partners_passed (suc k) a fits none =
       let e : a + 1 + k ≡ a + suc k = omega arith in
       partner_passed a (omega arith) (none a (omega arith) (omega arith))
       ∙ partners_passed k (a + 1) (omega arith) (λ s more less. none s (omega arith) (omega arith))
-      ∙ ap (λ (m : ℕ). partners test rights m n) e
+      ∙ ap (λ (m : ℕ). partner_slots test rights m n) e
 
-  pub no_partners : (a : ℕ) → ((s : ℕ) → a ≤ s → s < n → is_live_and test (get_or rights s no_row) ≡ false) → partners test rights a n ≡ []
+  pub no_partners : (a : ℕ) → ((s : ℕ) → a ≤ s → s < n → is_live_and test (get_or rights s no_row) ≡ false) → partner_slots test rights a n ≡ []
   no_partners a none = ⊎_elim some over (cases_lt a n)
     where
-      over : n ≤ a → partners test rights a n ≡ []
+      over : n ≤ a → partner_slots test rights a n ≡ []
       over h = let e : n - a ≡ 0 = omega arith in ap (λ (m : ℕ). passing test rights (range_with_len a m)) e
 
-      some : a < n → partners test rights a n ≡ []
+      some : a < n → partner_slots test rights a n ≡ []
       some h =
           let e : a + (n - a) ≡ n = omega arith in
           let f : n - n ≡ 0 = omega arith in
           partners_passed (n - a) a (omega arith) (λ s more less. none s more (omega arith))
-          ∙ ap (λ (m : ℕ). partners test rights m n) e
+          ∙ ap (λ (m : ℕ). partner_slots test rights m n) e
           ∙ ap (λ (m : ℕ). passing test rights (range_with_len n m)) f
 
 -- ---- a right row that was read
 
 pub met_more : (old new : Block) (place slot : ℕ) (rights : List Row) (found : Option ℤ) → new ≡ record old { seen = new.seen; firsts = new.firsts; ends = new.ends }
-    → found ≡ number_in place (get_or rights slot no_row)
-    → ((k s : ℕ) → LiesIn old k s → LiesIn new k s)
-    → ((k : ℕ) (z : ℤ) → k < old.end - old.begin → number_held old k ≡ Some z → found ≡ Some z → LiesIn new k slot)
+    → found ≡ number_of_row place (get_or rights slot no_row)
+    → ((k s : ℕ) → LiesBetween old k s → LiesBetween new k s)
+    → ((k : ℕ) (z : ℤ) → k < old.end - old.begin → number_held old k ≡ Some z → found ≡ Some z → LiesBetween new k slot)
     → ((s : ℕ) → s < new.seen → (s ≡ slot → ⊥) → s < old.seen)
     → HasMet old place rights → HasMet new place rights
 met_more old new place slot rights found kept is widens meets others met nth s z less below held number =
     let less_old : nth < old.end - old.begin = subst (λ (b : Block). nth < b.end - b.begin) kept less in
     let held_old : number_held old nth ≡ Some z = subst (λ (b : Block). number_held b nth ≡ Some z) kept held in
     ⊎_elim
-    (λ (here : s ≡ slot). subst (LiesIn new nth) (sym here) (meets nth z less_old held_old (is ∙ ap (λ (n : ℕ). number_in place (get_or rights n no_row)) (sym here) ∙ number)))
+    (λ (here : s ≡ slot). subst (LiesBetween new nth) (sym here) (meets nth z less_old held_old (is ∙ ap (λ (n : ℕ). number_of_row place (get_or rights n no_row)) (sym here) ∙ number)))
     (λ (other : s ≡ slot → ⊥). widens nth s (met nth s z less_old (others s below other) held_old number))
     (cases_eq s slot)

@@ -9,18 +9,18 @@ use Rattle.tuple_file.specs.Column.{IsNumber}
 use Rattle.tuple_file.specs.Tuples.{rows}
 use Rattle.cursor.specs.declared.block.Block.{Block}
 use Rattle.cursor.specs.declared.join.JoinCursor.{JoinCursor}
-use Rattle.cursor.specs.Pairs.{FitsPairs, belongs, join_cost_ahead, lefts_of, pairs_left, partners, right_side_cost, right_side_costs}
+use Rattle.cursor.specs.Pairs.{FitsPairs, belongs, join_cost_ahead, lefts_of, pairs_left, partner_slots, right_side_cost, right_side_costs}
 
 -- ---- numbers
 
-abbrev pub number_of : Option Value → Option ℤ
-number_of (Some (Number z)) = Some z
-number_of (Some (Text bytes)) = None
-number_of None = None
+abbrev pub number_of_value : Option Value → Option ℤ
+number_of_value (Some (Number z)) = Some z
+number_of_value (Some (Text bytes)) = None
+number_of_value None = None
 
 -- the number at a place of a live row
-abbrev pub number_in : ℕ → Row → Option ℤ
-number_in place row = if row.live then number_of (slice_get row.tuple place) else None
+abbrev pub number_of_row : ℕ → Row → Option ℤ
+number_of_row place row = if row.live then number_of_value (slice_get row.tuple place) else None
 
 -- the number of the nth left row of a block, none where it is removed
 abbrev pub number_held : Block → ℕ → Option ℤ
@@ -30,14 +30,14 @@ number_held b nth = if get_or b.live nth false then Some (get_or b.numbers nth (
 
 -- what is held of a left row is its number, and nothing where it is removed
 pub record StandsFor (held : Option ℤ) (place : ℕ) (row : Row) : Type 0 where
-  pub number : number_in place row ≡ held
+  pub number : number_of_row place row ≡ held
   pub removed : held ≡ None → row.live ≡ false
 
 abbrev pub HoldsLefts : Block → ℕ → List Row → Type 0
 HoldsLefts b place lefts = (nth : ℕ) → nth < b.end - b.begin → StandsFor (number_held b nth) place (get_or lefts (b.begin + nth) no_row)
 
 -- a right slot lies between the first and the last that the nth left row has
-pub record LiesIn (b : Block) (nth slot : ℕ) : Type 0 where
+pub record LiesBetween (b : Block) (nth slot : ℕ) : Type 0 where
   pub first : get_or b.firsts nth 0 ≤ slot
   pub last : slot < get_or b.ends nth 0
 
@@ -45,14 +45,14 @@ pub record LiesIn (b : Block) (nth slot : ℕ) : Type 0 where
 abbrev pub HasMet : Block → ℕ → List Row → Type 0
 HasMet b place rights =
     (nth slot : ℕ) (number : ℤ) → nth < b.end - b.begin → slot < b.seen → number_held b nth ≡ Some number
-    → number_in place (get_or rights slot no_row) ≡ Some number → LiesIn b nth slot
+    → number_of_row place (get_or rights slot no_row) ≡ Some number → LiesBetween b nth slot
 
 -- of the rows with a number the first from a slot on was found, or there was none
 abbrev pub FindsSlot : Option ℕ → Option ℤ → ℕ → List Row → (from count : ℕ) → Type 0
 FindsSlot found None place rights from count = found ≡ None
 FindsSlot found (Some number) place rights from count =
     let test = belongs (Some (Number number)) place in
-    MatchOption found (partners test rights from count ≡ []) (λ slot. partners test rights from count ≡ slot ∷ partners test rights (slot + 1) count)
+    MatchOption found (partner_slots test rights from count ≡ []) (λ slot. partner_slots test rights from count ≡ slot ∷ partner_slots test rights (slot + 1) count)
 
 -- ---- a join by blocks
 
@@ -73,12 +73,12 @@ abbrev pub MayReadBy : Block → JoinCursor → Type 0
 MayReadBy b c = IsTrue b.serves → IsBlockFor b c
 
 -- over these rows, it holds the left rows, and has met the right rows that were read for it
-pub record HasRead (b : Block) (c : JoinCursor) (lefts rights : List Row) : Type 0 where
+pub record HasMetRights (b : Block) (c : JoinCursor) (lefts rights : List Row) : Type 0 where
   pub holds : HoldsLefts b c.left_on lefts
   pub met : HasMet b c.right_on rights
 
 abbrev pub IsBlockOf : Block → JoinCursor → List Row → List Row → Type 0
-IsBlockOf b c lefts rights = IsTrue b.serves → HasRead b c lefts rights
+IsBlockOf b c lefts rights = IsTrue b.serves → HasMetRights b c lefts rights
 
 -- it has answered the pair at a right slot
 abbrev pub behind_slot : JoinCursor → ℕ → JoinCursor

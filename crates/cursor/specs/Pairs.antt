@@ -97,14 +97,14 @@ FitsInner None state tables rights = ⊤
 FitsInner (Some inner) state tables rights = Fits inner state tables rights
 
 -- the slots from one on, below a number, whose rows pass a test
-abbrev pub partners : (List Value → Bool) → List Row → (from count : ℕ) → List ℕ
-partners test rights from count = passing test rights (range_with_len from (count - from))
+abbrev pub partner_slots : (List Value → Bool) → List Row → (from count : ℕ) → List ℕ
+partner_slots test rights from count = passing test rights (range_with_len from (count - from))
 
 -- the rows that pass a test, from a slot on, are ahead
 abbrev pub HasAhead : Option Candidates → (List Value → Bool) → List Row → ℕ → ℕ → Type 0
 HasAhead None test rights from slots = ⊤
 HasAhead (Some inner) test rights from slots =
-    passing test rights (ahead inner rights) ≡ partners test rights from slots
+    passing test rights (ahead inner rights) ≡ partner_slots test rights from slots
 
 -- whether a right tuple belongs to a value
 abbrev pub belongs : Option Value → ℕ → List Value → Bool
@@ -169,12 +169,12 @@ pub record IsBegunJoin (c : JoinCursor) (first second : Tuples) (infos : List In
 -- the first partner from a slot on was found, or there was none
 abbrev pub FindsPartner : Option Partnered → (List Value → Bool) → List Row → (from count : ℕ) → Type 0
 FindsPartner found test rights from count =
-    MatchOption found (partners test rights from count ≡ []) (λ p. partners test rights from count ≡ p.slot ∷ partners test rights (p.slot + 1) count)
+    MatchOption found (partner_slots test rights from count ≡ []) (λ p. partner_slots test rights from count ≡ p.slot ∷ partner_slots test rights (p.slot + 1) count)
 
 -- and the right side stands after it
 abbrev pub StandsBehind : Option Partnered → (List Value → Bool) → State → Tables → List Row → (count : ℕ) → Type 0
 StandsBehind found test state tables rights count =
-    IfSome found (λ p. Fits p.inner state tables rights × (passing test rights (ahead p.inner rights) ≡ partners test rights (p.slot + 1) count))
+    IfSome found (λ p. Fits p.inner state tables rights × (passing test rights (ahead p.inner rights) ≡ partner_slots test rights (p.slot + 1) count))
 
 -- what is ahead of it pays for what was read
 abbrev pub PaysRight : Option Partnered → List Row → (before after : ℕ) → Type 0

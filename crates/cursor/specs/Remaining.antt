@@ -74,7 +74,7 @@ pub record BeginsBy (c : SelectCursor) (attributes : List Attribute) (condition 
       ≤ chosen_cost (kinds infos) (ranges_of attributes condition) all
 
 -- what it is made of: it rests, over this many slots, by one of the indexes
-pub record IsBegun (c : SelectCursor) (relation : Tuples) (condition : List Instruction) (count : ℕ) (infos : List IndexInfo) : Type 0 where
+pub record IsNewCursor (c : SelectCursor) (relation : Tuples) (condition : List Instruction) (count : ℕ) (infos : List IndexInfo) : Type 0 where
   pub tuples : c.tuples ≡ relation
   pub code : c.code ≡ condition
   pub slots : c.candidates.slots ≡ count
@@ -82,7 +82,7 @@ pub record IsBegun (c : SelectCursor) (relation : Tuples) (condition : List Inst
   pub chosen : IsChosen c.candidates.search infos
 
 -- over these rows, a step of candidates to the next row that is live and passes a test: what is ahead pays for what was read
-pub record StepsTo (found : Option ℕ) (test : List Value → Bool) (old new : Candidates) (state : State) (tables : Tables) (all : List Row) (before after : ℕ) : Type 0 where
+pub record StepsToRow (found : Option ℕ) (test : List Value → Bool) (old new : Candidates) (state : State) (tables : Tables) (all : List Row) (before after : ℕ) : Type 0 where
   pub first : MatchOption found (passing test all (ahead old all) ≡ [])
       (λ slot. passing test all (ahead old all) ≡ slot ∷ passing test all (ahead new all))
   pub over : IfNone found (ahead new all ≡ [])

@@ -9,7 +9,7 @@ ghost use Rattle.db_model.specs.Row.{Row, no_row};
 ghost use Rattle.tuple_file.specs.Column.{IsNumber};
 ghost use Rattle.tuple_file.specs.Tuples.{HoldsRows, rows, slots};
 ghost use Rattle.cursor.specs.Pairs.{HasLive, MayReadPairs, join_cost_ahead};
-ghost use Rattle.cursor.specs.Blocks.{FindsSlot, HasMet, HoldsLefts, IsBlockOf, LiesIn, MayReadBy, cost_by_block, number_held, number_in, number_of};
+ghost use Rattle.cursor.specs.Blocks.{FindsSlot, HasMet, HoldsLefts, IsBlockOf, LiesBetween, MayReadBy, cost_by_block, number_held, number_of_row, number_of_value};
 
 use crate::join::JoinCursor;
 use afl_base::{Failed, Files, SlotNo};
@@ -56,7 +56,7 @@ fn widen(firsts: &mut [u16; 256], ends: &mut [u16; 256], nth: usize, slot: u16)
 
 // The number at a place of a tuple.
 fn number_of(tuple: &Tuple, place: u8) -> Option<i64>
-    ensures { result ≡ number_of (slice_get tuple.now place) }
+    ensures { result ≡ number_of_value (slice_get tuple.now place) }
 {
     match tuple.as_slice().get(usize::from(place)) {
         Some(Value::Number(number)) => Some(*number),
@@ -77,7 +77,7 @@ pub(crate) fn number_in<V: Files>(
     requires slot { slot < slots (V.state files.old).files tuples.now }
     ensures number { let all = rows (V.state files.old).files tuples.now in
         IsTrue (V.state files.old).tells
-        → IfOk result (λ found. found ≡ number_in place (get_or all slot no_row)) }
+        → IfOk result (λ found. found ≡ number_of_row place (get_or all slot no_row)) }
     ensures tuple { let all = rows (V.state files.old).files tuples.now in
         IsTrue (V.state files.old).tells
         → IfOk result (λ found. IfSome found (λ _. HasLive all slot into.new)) }
@@ -180,8 +180,8 @@ impl Block {
         requires row { nth < 256 }
         requires slot { slot < 32768 }
         ensures kept { self.new ≡ record self.old { firsts = self.new.firsts; ends = self.new.ends } }
-        ensures widens { (k s : ℕ) → LiesIn self.old k s → LiesIn self.new k s }
-        ensures notes { number_held self.old nth ≡ Some number.now → LiesIn self.new nth slot }
+        ensures widens { (k s : ℕ) → LiesBetween self.old k s → LiesBetween self.new k s }
+        ensures notes { number_held self.old nth ≡ Some number.now → LiesBetween self.new nth slot }
     {
         if self.numbers[nth] == *number {
             widen(&mut self.firsts, &mut self.ends, nth, slot);
@@ -193,9 +193,9 @@ impl Block {
         requires few { self.old.end ≤ self.old.begin + 256 }
         requires slot { slot < 32768 }
         ensures kept { self.new ≡ record self.old { firsts = self.new.firsts; ends = self.new.ends } }
-        ensures widens { (k s : ℕ) → LiesIn self.old k s → LiesIn self.new k s }
+        ensures widens { (k s : ℕ) → LiesBetween self.old k s → LiesBetween self.new k s }
         ensures meets { (k : ℕ) → k < self.old.end - self.old.begin
-            → number_held self.old k ≡ Some number.now → LiesIn self.new k slot }
+            → number_held self.old k ≡ Some number.now → LiesBetween self.new k slot }
     {
         for nth in 0..self.end.saturating_sub(self.begin) {
             self.note(usize::from(nth), number, slot);
@@ -207,10 +207,10 @@ impl Block {
         requires few { self.old.end ≤ self.old.begin + 256 }
         requires slot { slot < 32768 }
         ensures kept { self.new ≡ record self.old { firsts = self.new.firsts; ends = self.new.ends } }
-        ensures widens { (k s : ℕ) → LiesIn self.old k s → LiesIn self.new k s }
+        ensures widens { (k s : ℕ) → LiesBetween self.old k s → LiesBetween self.new k s }
         ensures meets { (k : ℕ) (number : ℤ) → k < self.old.end - self.old.begin
             → number_held self.old k ≡ Some number → found.now ≡ Some number
-            → LiesIn self.new k slot }
+            → LiesBetween self.new k slot }
     {
         match found {
             Some(number) => self.meet(number, slot),
@@ -228,10 +228,10 @@ impl Block {
           firsts = self.new.firsts;
           ends = self.new.ends;
         } }
-        ensures widens { (k s : ℕ) → LiesIn self.old k s → LiesIn self.new k s }
+        ensures widens { (k s : ℕ) → LiesBetween self.old k s → LiesBetween self.new k s }
         ensures meets { (k : ℕ) (number : ℤ) → k < self.old.end - self.old.begin
             → number_held self.old k ≡ Some number → found.now ≡ Some number
-            → LiesIn self.new k slot }
+            → LiesBetween self.new k slot }
         ensures seen { slot < self.new.seen }
         ensures others { (s : ℕ) → s < self.new.seen → s ≢ slot → s < self.old.seen }
         ensures most { (n : ℕ) → self.old.seen ≤ n → slot < n → self.new.seen ≤ n }
@@ -311,7 +311,7 @@ impl Block {
             → self.new.seen ≤ cursor.now.right_slots) }
         ensures number { let all = rows (V.state files.old).files cursor.now.right in
             IsTrue (V.state files.old).tells
-            → IfOk result (λ found. found ≡ number_in cursor.now.right_on (get_or all slot no_row)) }
+            → IfOk result (λ found. found ≡ number_of_row cursor.now.right_on (get_or all slot no_row)) }
         ensures tuple { let all = rows (V.state files.old).files cursor.now.right in
             IsTrue (V.state files.old).tells
             → IfOk result (λ found. IfSome found (λ _. HasLive all slot right.new)) }

@@ -6,7 +6,7 @@ ghost use Rattle.std.specs.Prelude.{◌≡◌, ◌+◌, ◌*◌, ◌-◌, ◌<�
 ghost use Rattle.afl_base.specs.Keeping.{OnlyReads};
 ghost use Rattle.db_model.specs.Row.{Row};
 ghost use Rattle.tuple_file.specs.Tuples.{rows};
-ghost use Rattle.cursor.specs.Blocks.{HasRead, IsBlockFor, IsBlockOf, MayReadBy, PairsInBlock, PaysInBlock, YieldsByBlock, cost_by_block, cost_in_blocks};
+ghost use Rattle.cursor.specs.Blocks.{HasMetRights, IsBlockFor, IsBlockOf, MayReadBy, PairsInBlock, PaysInBlock, YieldsByBlock, cost_by_block, cost_in_blocks};
 ghost use Rattle.cursor.specs.Pairs.{FitsPairs, MayReadPairs};
 
 use crate::block::{Block, number_in};
@@ -31,7 +31,7 @@ impl JoinCursor {
         ensures inside { OnOk result (self.now.at < block.new.end) }
         ensures read { let state = V.state files.old in let lefts = rows state.files self.now.left in
             let rights = rows state.files self.now.right in IsTrue state.tells → OnOk result (
-            HasRead block.old self.now lefts rights → HasRead block.new self.now lefts rights) }
+            HasMetRights block.old self.now lefts rights → HasMetRights block.new self.now lefts rights) }
         ensures reads { OnOk result (V.reads files.new + 6 * (self.now.left_slots - block.new.end)
             ≤ V.reads files.old + 6 * (self.now.left_slots - block.old.end)) }
         ensures reads_err { OnErr result (V.reads files.new
@@ -67,18 +67,18 @@ impl JoinCursor {
         ensures below { IfOk result (λ found. IfSome found (λ slot. slot < self.now.right_slots)) }
         ensures pairs { let state = V.state files.old in let lefts = rows state.files self.now.left in
             let rights = rows state.files self.now.right in IsTrue state.tells → IfOk result (λ found.
-            HasRead block.old self.now lefts rights
+            HasMetRights block.old self.now lefts rights
             → PairsInBlock found (left.new, right.new) self.now lefts rights) }
         ensures read { let state = V.state files.old in let lefts = rows state.files self.now.left in
             let rights = rows state.files self.now.right in IsTrue state.tells → OnOk result (
-            HasRead block.old self.now lefts rights → HasRead block.new self.now lefts rights) }
+            HasMetRights block.old self.now lefts rights → HasMetRights block.new self.now lefts rights) }
         ensures reads { let state = V.state files.old in let lefts = rows state.files self.now.left in
             let rights = rows state.files self.now.right in IsTrue state.tells → IfOk result (λ found.
-            HasRead block.old self.now lefts rights → PaysInBlock found block.old self.now lefts rights
+            HasMetRights block.old self.now lefts rights → PaysInBlock found block.old self.now lefts rights
             (V.reads files.old) (V.reads files.new)) }
         ensures reads_err { let state = V.state files.old in let lefts = rows state.files self.now.left in
             let rights = rows state.files self.now.right in IsTrue state.tells → OnErr result (
-            HasRead block.old self.now lefts rights → V.reads files.new
+            HasMetRights block.old self.now lefts rights → V.reads files.new
             ≤ V.reads files.old + cost_in_blocks block.old self.now lefts rights) }
         ensures frame { OnlyReads V.state V.lent V.reads V.faults files.old files.new result }
     {

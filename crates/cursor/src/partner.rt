@@ -12,7 +12,7 @@ ghost use Rattle.index_set.specs.Complete.{AreIndexesOf};
 ghost use Rattle.index_set.specs.Walks.{Fits, IsSafeBy, ahead, cost_ahead};
 ghost use Rattle.tuple_file.specs.Lent.{value_in};
 ghost use Rattle.tuple_file.specs.Tuples.{rows};
-ghost use Rattle.cursor.specs.Pairs.{FindsPartner, FitsInner, HasAhead, HasLive, MayReadRight, PaysRight, StandsBehind, belongs, inner_cost, partners, right_side_cost};
+ghost use Rattle.cursor.specs.Pairs.{FindsPartner, FitsInner, HasAhead, HasLive, MayReadRight, PaysRight, StandsBehind, belongs, inner_cost, partner_slots, right_side_cost};
 ghost use Rattle.cursor.specs.Remaining.{passing};
 
 use crate::walk::{Test, next_row};
@@ -127,7 +127,7 @@ fn right_side<V: Files>(
         let test = belongs partner.now.value partner.now.on in
         IsTrue state.tells → IfOk result (λ c. AreIndexesOf state tables.now all indexes.now
         → HasAhead inner.now test all from slots
-        → passing test all (ahead c all) ≡ partners test all from slots) }
+        → passing test all (ahead c all) ≡ partner_slots test all from slots) }
     ensures reads { let state = V.state files.old in let all = rows state.files right.now in
         let cost = right_side_cost indexes.now partner.now.on partner.now.value all in
         IsTrue state.tells → IfOk result (λ c. AreIndexesOf state tables.now all indexes.now

@@ -13,10 +13,10 @@ ghost use Rattle.db_model.specs.Plan.{plan, ranges_of};
 ghost use Rattle.db_model.specs.Row.{AllSuit, Row, row_length, tuple_of};
 ghost use Rattle.index_set.specs.Complete.{AreIndexesOf, AreReadable};
 ghost use Rattle.index_set.specs.Plans.{kinds};
-ghost use Rattle.index_set.specs.Walks.{Advances, Fits, Waits, cost_ahead, walk_of};
+ghost use Rattle.index_set.specs.Walks.{Advances, Fits, Waits, cost_ahead, walk_of_search};
 ghost use Rattle.lvm.specs.Code.{IsCodeOf};
 ghost use Rattle.tuple_file.specs.Tuples.{HoldsRows, rows, slots};
-ghost use Rattle.cursor.specs.Remaining.{AreOnNumbers, BeginsBy, IsBegun, MayRead, Yields, next_cost, remaining, slots_to_answer};
+ghost use Rattle.cursor.specs.Remaining.{AreOnNumbers, BeginsBy, IsNewCursor, MayRead, Yields, next_cost, remaining, slots_to_answer};
 
 use crate::fields::selects_row;
 use crate::walk::{Test, next_bytes, next_row};
@@ -82,13 +82,13 @@ impl SelectCursor {
             → BeginsBy c tuples.schema.attributes condition indexes.now all) }
         ensures walk { let ranges = ranges_of tuples.schema.attributes in IfOk result (λ c.
             (condition : Option Cond) → IsCodeOf tuples.schema.attributes condition code
-            → walk_of c.candidates.search
+            → walk_of_search c.candidates.search
             ≡ walk_by (kinds indexes.now) (plan (kinds indexes.now) (ranges condition))) }
         ensures fits { let state = V.state files.old in let all = rows state.files tuples in
             IsTrue state.tells → IfOk result (λ c.
             AreIndexesOf state tables.now all indexes.now → Fits c.candidates state tables.now all) }
         ensures begun { let state = V.state files.old in
-            IfOk result (λ c. IsBegun c tuples code (slots state.files tuples) indexes.now) }
+            IfOk result (λ c. IsNewCursor c tuples code (slots state.files tuples) indexes.now) }
         ensures may_read { IfOk result (λ c. MayRead (V.state files.old) tuples c.candidates) }
         ensures reads { let state = V.state files.old in
             let ranges = ranges_of tuples.schema.attributes in

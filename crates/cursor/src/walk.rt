@@ -7,7 +7,7 @@ ghost use Rattle.afl_base.specs.Keeping.{OnlyReads};
 ghost use Rattle.db_model.specs.Row.{AllSuit, Row, no_row, row_length, tuple_of};
 ghost use Rattle.index_set.specs.Walks.{Advances, Fits, ahead, cost_ahead};
 ghost use Rattle.tuple_file.specs.Tuples.{HoldsRows, row, rows, slots};
-ghost use Rattle.cursor.specs.Remaining.{MayRead, StepsTo, cost_of_slots, is_live_and, passed_until};
+ghost use Rattle.cursor.specs.Remaining.{MayRead, StepsToRow, cost_of_slots, is_live_and, passed_until};
 
 use afl_base::{Failed, Files, SlotNo};
 use db_model::{Attribute, Tuple};
@@ -74,7 +74,7 @@ pub(crate) fn next_row<V: Files, T: Test>(
     requires may_read { MayRead (V.state files.old) tuples.now candidates.old }
     ensures steps { let state = V.state files.old in let all = rows state.files tuples.now in
         IsTrue state.tells → IfOk result (λ found. Fits candidates.old state tables.now all
-        → StepsTo found (T.passes test.now) candidates.old candidates.new state tables.now all
+        → StepsToRow found (T.passes test.now) candidates.old candidates.new state tables.now all
         (V.reads files.old) (V.reads files.new)) }
     ensures advances { IfOk result (λ found. Advances found candidates.old candidates.new) }
     ensures ended { IfOk result (λ found. IfNone found (candidates.new.from ≡ candidates.new.slots)) }
@@ -117,7 +117,7 @@ pub(crate) fn next_bytes<V: Files, T: Test>(
         → length row.old ≡ row_length tuples.now.schema.attributes }
     ensures steps { let state = V.state files.old in let all = rows state.files tuples.now in
         IsTrue state.tells → IfOk result (λ found. Fits candidates.old state tables.now all
-        → StepsTo found (T.passes test.now) candidates.old candidates.new state tables.now all
+        → StepsToRow found (T.passes test.now) candidates.old candidates.new state tables.now all
         (V.reads files.old) (V.reads files.new)) }
     ensures advances { IfOk result (λ found. Advances found candidates.old candidates.new) }
     ensures ended { IfOk result (λ found. IfNone found (candidates.new.from ≡ candidates.new.slots)) }

@@ -7,7 +7,7 @@ use Rattle.afl_base.specs.Files.{Drafts, File, IsLive, KeepsBytes, OthersStay, O
 use Rattle.afl_base.proofs.FieldLaws.{length-put_at}
 use Rattle.afl_base.proofs.Images.{length_range}
 use Rattle.tuple_file.proofs.Puts.{byte-put_at}
-use Rattle.database_tests.specs.Standing.{LeavesFiles}
+use Rattle.database_tests.specs.Standing.{KeepsEachFile}
 
 -- ---- a byte in the place of the same
 
@@ -42,13 +42,13 @@ overwritten_same a b id at byte inside same o = record {
 
 -- ---- files that were there
 
-live_here : (a b : Table) (id : ℕ) → place b id ≡ place a id → IsLive a id → IsLive b id
+pub live_here : (a b : Table) (id : ℕ) → place b id ≡ place a id → IsLive a id → IsLive b id
 live_here a b id same live = let P : Option File → Type 0 = λ o. IsTrue (is_some o) in subst P (sym same) live
 
-pub keeps_same : (a : State) → LeavesFiles a a
+pub keeps_same : (a : State) → KeepsEachFile a a
 keeps_same a = record { same = λ id live. refl; draft = refl; tells = refl }
 
-pub keeps_then : (a b c : State) → LeavesFiles a b → LeavesFiles b c → LeavesFiles a c
+pub keeps_then : (a b c : State) → KeepsEachFile a b → KeepsEachFile b c → KeepsEachFile a c
 keeps_then a b c f g = record {
   same = λ id live. g.same id (live_here a.files b.files id (f.same id live) live) ∙ f.same id live;
   draft = g.draft ∙ f.draft;
@@ -60,7 +60,7 @@ dead None none live = absurd (cc)
 dead (Some f) none live = absurd (cc)
 
 -- where only a file changes that was not there
-pub keeps_others : (a b c : State) (id : ℕ) → place a.files id ≡ None → LeavesFiles a b → OthersStay b.files c.files id → c.draft ≡ b.draft → c.tells ≡ b.tells → LeavesFiles a c
+pub keeps_others : (a b c : State) (id : ℕ) → place a.files id ≡ None → KeepsEachFile a b → OthersStay b.files c.files id → c.draft ≡ b.draft → c.tells ≡ b.tells → KeepsEachFile a c
 keeps_others a b c id none f others draft tells = record {
   same = λ k live.
       let other : k ≢ id = λ e. dead (place a.files k) (ap (place a.files) e ∙ none) live in

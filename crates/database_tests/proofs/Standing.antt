@@ -1,8 +1,9 @@
 -- The relation stands while files change.
-use Rattle.std.proofs.Common.{◌≡◌, ◌≢◌, ℕ, ◌+◌, ◌/◌, ◌<◌, ◌≤◌, List, length, Option, Some, None, IsTrue, is_some, unwrap_or, refl, sym, ap, ◌∙◌, subst, arith}
+use Rattle.std.proofs.Common.{◌≡◌, ◌≢◌, ℕ, ◌+◌, ◌/◌, ◌<◌, ◌≤◌, List, length, Option, Some, None, unwrap_or, refl, sym, ap, ◌∙◌, subst, arith}
 use Rattle.afl_base.specs.Files.{Becomes, File, IsLive, KeepsBytes, State, Table, no_file, place}
 use Rattle.afl_base.specs.Frames.{Prepares, SparesOthers}
 use Rattle.afl_base.proofs.FrameLaws.{becomes_spares, keeps_prepares, live_by_name}
+use Rattle.database_tests.proofs.Kept.{live_here as live_by}
 use Rattle.db_model.specs.Row.{row_length}
 use Rattle.index_set.specs.declared.candidates.Candidates.{Candidates}
 use Rattle.index_set.specs.declared.candidates.Search.{Search}
@@ -18,7 +19,7 @@ use Rattle.cursor.specs.Remaining.{AreOnNumbers, MayRead}
 use Rattle.tuple_file.specs.declared.tuples.Tuples.{Tuples}
 use Rattle.tuple_file.specs.Tuples.{HoldsRows, slots}
 use Rattle.tuple_file.proofs.Columns.{column_field, column_width}
-use Rattle.database_tests.specs.Standing.{StandsOn, IsStanding, LeavesFiles, three_indexes}
+use Rattle.database_tests.specs.Standing.{StandsOn, IsStanding, KeepsEachFile, three_indexes}
 use Rattle.tuple_file.proofs.Holding.{holds_by, slots_prepared, holds_prepared}
 
 -- ---- rows
@@ -52,16 +53,13 @@ stands_kept a b tables id t tree s live k =
       idle = f.spares.draft ∙ s.idle;
     }
 
-live_by : (a b : Table) (id : ℕ) → place b id ≡ place a id → IsLive a id → IsLive b id
-live_by a b id same live = let P : Option File → Type 0 = λ o. IsTrue (is_some o) in subst P (sym same) live
-
-pub goes_all : (a b : State) (tables : Tables) (t : Tuples) (tree : ℕ) → IsStanding a tables t tree → LeavesFiles a b → StandsOn a b t
+pub goes_all : (a b : State) (tables : Tables) (t : Tuples) (tree : ℕ) → IsStanding a tables t tree → KeepsEachFile a b → StandsOn a b t
 goes_all a b tables t tree s f = record {
   live = λ id live. live_by a.files b.files id (f.same id live) live;
   slots = omega (arith, slots_by a b t (f.same t.file s.holds.file.live));
 }
 
-pub stands_all : (a b : State) (tables : Tables) (t : Tuples) (tree : ℕ) → IsStanding a tables t tree → LeavesFiles a b → IsStanding b tables t tree
+pub stands_all : (a b : State) (tables : Tables) (t : Tuples) (tree : ℕ) → IsStanding a tables t tree → KeepsEachFile a b → IsStanding b tables t tree
 stands_all a b tables t tree s f =
     let here = f.same t.file s.holds.file.live in
     let there = f.same tree s.live in

@@ -58,7 +58,7 @@ pub record StandsOn (old new : State) (tuples : Tuples) : Type 0 where
   pub slots : slots old.files tuples ≤ slots new.files tuples
 
 -- each file that was there is as it was
-pub record LeavesFiles (old new : State) : Type 0 where
+pub record KeepsEachFile (old new : State) : Type 0 where
   pub same : (id : ℕ) → IsLive old.files id → place new.files id ≡ place old.files id
   pub draft : new.draft ≡ old.draft
   pub tells : new.tells ≡ old.tells

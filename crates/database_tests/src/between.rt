@@ -5,7 +5,7 @@ ghost use Rattle.afl_base.specs.Files.{IsLive, KeepsBytes, file_at, size_at};
 ghost use Rattle.afl_base.specs.declared.kind.Kind.TheVariants.{Doubling};
 ghost use Rattle.index_set.specs.declared.info.TableId.{TableId as AnyTable};
 ghost use Rattle.index_set.specs.Tables.{entries};
-ghost use Rattle.database_tests.specs.Standing.{StandsOn, IsStanding, LeavesFiles, Lengthens};
+ghost use Rattle.database_tests.specs.Standing.{StandsOn, IsStanding, KeepsEachFile, Lengthens};
 
 use crate::counting::Counts;
 use crate::known::Known;
@@ -149,7 +149,7 @@ fn overwrite_one<V: Files>(files: &mut V, id: FileId, at: u32) -> Result<(), Fai
 #[tactic(auto, using(crate::proofs::Kept::keeps_same, crate::proofs::Kept::keeps_then))]
 fn collect<V: Files>(files: &mut V, counts: &Counts, before: u32) -> Result<(), Fail>
     requires idle { (V.state files.old).draft ≡ None }
-    ensures keeps { OnOk result (LeavesFiles (V.state files.old) (V.state files.new)) }
+    ensures keeps { OnOk result (KeepsEachFile (V.state files.old) (V.state files.new)) }
 {
     for turn in 0..40u8 {
         grow_another(files)?;
@@ -164,7 +164,7 @@ fn collect<V: Files>(files: &mut V, counts: &Counts, before: u32) -> Result<(), 
 #[tactic(auto, using(crate::proofs::Kept::keeps_others))]
 fn grow_another<V: Files>(files: &mut V) -> Result<(), Fail>
     requires idle { (V.state files.old).draft ≡ None }
-    ensures keeps { OnOk result (LeavesFiles (V.state files.old) (V.state files.new)) }
+    ensures keeps { OnOk result (KeepsEachFile (V.state files.old) (V.state files.new)) }
 {
     let id = empty_file(files, Name::new(b"S").ok_or("name")?)?;
     for turn in 0..5u16 {

@@ -7,7 +7,7 @@ ghost use Rattle.afl_base.specs.declared.kind.Kind.TheVariants.{Doubling};
 ghost use Rattle.index_set.specs.declared.info.TableId.TheVariants.{First};
 ghost use Rattle.index_set.specs.Tables.{entries};
 ghost use Rattle.tuple_file.specs.Tuples.{HoldsRows, slots};
-ghost use Rattle.database_tests.specs.Standing.{AreOurs, StandsOn, IsOurs, IsStanding, LeavesFiles, three_indexes};
+ghost use Rattle.database_tests.specs.Standing.{AreOurs, StandsOn, IsOurs, IsStanding, KeepsEachFile, three_indexes};
 
 use crate::volumes::empty_file;
 use afl_base::{FileId, Files, Name, SlotNo};
@@ -137,7 +137,7 @@ fn empty_tree<V: Files>(files: &mut V, name: Name) -> Result<FileId, Fail>
     ensures live { IfOk result (λ id. IsLive (V.state files.new).files id) }
     ensures kind { IfOk result (λ id. (file_at (V.state files.new).files id).kind ≡ Doubling) }
     ensures new { IfOk result (λ id. place (V.state files.old).files id ≡ None) }
-    ensures keeps { OnOk result (LeavesFiles (V.state files.old) (V.state files.new)) }
+    ensures keeps { OnOk result (KeepsEachFile (V.state files.old) (V.state files.new)) }
 {
     if !is_free(files, name) {
         return Err(Fail::new("there is no place for a file"));

@@ -3,7 +3,7 @@
 ghost use Rattle.std.specs.Prelude.{◌≡◌, IfOk, None, OnOk};
 ghost use Rattle.afl_base.specs.Files.{IsLive, file_at, place, size_at};
 ghost use Rattle.afl_base.specs.declared.kind.Kind.TheVariants.{Doubling};
-ghost use Rattle.database_tests.specs.Standing.{LeavesFiles};
+ghost use Rattle.database_tests.specs.Standing.{KeepsEachFile};
 
 use afl_base::{Failed, FileId, Files, Flash, Kind, Name};
 use coffee_volume::{MountError, Volume};
@@ -28,7 +28,7 @@ pub fn empty_file<V: Files>(files: &mut V, name: Name) -> Result<FileId, Fail>
     ensures kind { IfOk result (λ id. (file_at (V.state files.new).files id).kind ≡ Doubling) }
     ensures empty { IfOk result (λ id. size_at (V.state files.new).files id ≡ 0) }
     ensures new { IfOk result (λ id. place (V.state files.old).files id ≡ None) }
-    ensures keeps { OnOk result (LeavesFiles (V.state files.old) (V.state files.new)) }
+    ensures keeps { OnOk result (KeepsEachFile (V.state files.old) (V.state files.new)) }
 {
     if !is_free(files, name) {
         return Err(Fail::new("there is no place for a file"));

@@ -23,7 +23,7 @@ use Rattle.padded.proofs.Facts.{both_parts}
 
 -- ---- names
 
-word_byte-some : (b : ℕ) → is_word_byte b ≡ true → (b == 0) ≡ false
+pub word_byte-some : (b : ℕ) → is_word_byte b ≡ true → (b == 0) ≡ false
 word_byte-some zero e = cc
 word_byte-some (suc b) e = grind (arith, nat_tests)
 

@@ -157,7 +157,7 @@ pub slot_inside : (size k n : ℕ) → k < n → size * k + size ≤ size * n
 slot_inside size k n below = let e : size * suc k ≤ size * n = mul-le-mul_left size below in rw (← mul-suc size k) e
 
 -- the bytes of slot k stay where more bytes come behind all n slots
-slot_same : (size k n : ℕ) (xs ys : List ℕ) → length xs ≡ size * n → k < n → slice_range (xs ++ ys) (size * k) (size * k + size) ≡ slice_range xs (size * k) (size * k + size)
+pub slot_same : (size k n : ℕ) (xs ys : List ℕ) → length xs ≡ size * n → k < n → slice_range (xs ++ ys) (size * k) (size * k + size) ≡ slice_range xs (size * k) (size * k + size)
 slot_same size k n xs ys long below =
     let inside = slot_inside size k n below in
     let at : drop (size * k) (xs ++ ys) ≡ drop (size * k) xs ++ ys = drop-append-le (size * k) xs ys (omega (arith, long, inside)) in

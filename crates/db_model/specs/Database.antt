@@ -91,6 +91,10 @@ indexes_of db relation = filter (λ index. index.relation == relation) (used_thi
 abbrev pub is_inline : Index → Bool
 is_inline index = elim index.kind [ Inline ↦ true | MaxHeap ↦ false | MemHash ↦ false ]
 
+-- how many hash tables the machine has memory for
+abbrev pub most_tables : ℕ
+most_tables = 2
+
 abbrev pub is_hash_table : Index → Bool
 is_hash_table index = elim index.kind [ Inline ↦ false | MaxHeap ↦ false | MemHash ↦ true ]
 

@@ -9,7 +9,7 @@ use Rattle.db_model.specs.declared.schemas.IndexKind.{IndexKind}
 use Rattle.db_model.specs.declared.schemas.IndexKind.TheVariants.{Inline, MaxHeap, MemHash}
 use Rattle.db_model.specs.declared.schemas.Schema.{Schema}
 use Rattle.db_model.specs.Catalog.{Index, IsDomain}
-use Rattle.db_model.specs.Database.{Relation, Cursor, Database, used_things, is_among, is_hash_table, relation_named}
+use Rattle.db_model.specs.Database.{Relation, Cursor, Database, used_things, is_among, is_hash_table, most_tables, relation_named}
 use Rattle.db_model.specs.Names.{is_name}
 use Rattle.db_model.specs.Row.{AllRowsSuit, row_length}
 use Rattle.db_model.specs.Step.{allows, keys, first_fall, slots_limit}
@@ -88,7 +88,7 @@ pub record IsSoundDatabase (db : Database) : Type 0 where
   pub indexes : (k : ℕ) (index : Index) → StandsIn db.indexes k index → IsSoundIndex db.relations index
   -- no two indexes are on one place
   pub places : (j k : ℕ) (a b : Index) → StandsIn db.indexes j a → StandsIn db.indexes k b → a.relation ≡ b.relation → a.attribute ≡ b.attribute → j ≡ k
-  pub few_tables : length (filter is_hash_table (used_things db.indexes)) ≤ 2
+  pub few_tables : length (filter is_hash_table (used_things db.indexes)) ≤ most_tables
   pub cursors : (k : ℕ) (cursor : Cursor) → StandsIn db.cursors k cursor → IsSoundCursor db cursor
 
 -- ---- commands

@@ -22,7 +22,7 @@ use Rattle.db_model.specs.declared.values.Value.TheVariants as value
 use Rattle.db_model.specs.Answers.{select, join, aggregated, selected}
 use Rattle.db_model.specs.Catalog.{Index}
 use Rattle.db_model.specs.Cond.{Cond, condition_of}
-use Rattle.db_model.specs.Database.{Relation, Cursor, Database, free_from, used_things, relation_named, named, with_relation, with_index, index_slot, indexes_of, is_inline, is_hash_table, cursor_place, cursor_at, with_cursor, reader_of}
+use Rattle.db_model.specs.Database.{Relation, Cursor, Database, free_from, used_things, relation_named, named, with_relation, with_index, index_slot, indexes_of, is_inline, is_hash_table, most_tables, cursor_place, cursor_at, with_cursor, reader_of}
 use Rattle.db_model.specs.Item.{place_of, selects}
 use Rattle.db_model.specs.Refusing.{◌>>=◌, ◌>>◌, refuse_if, refuse_found, found_or}
 use Rattle.db_model.specs.Row.{Row, suits, row_length}
@@ -126,7 +126,7 @@ abbrev pub refuse_kind : IndexKind → Database → List ℤ → Result ⊤ Refu
 refuse_kind Inline db keys = refuse_found (first_fall keys) no.NotOrdered
 refuse_kind MaxHeap db keys = Ok tt
 refuse_kind MemHash db keys = do
-  refuse_if (nat_le 2 (length (filter is_hash_table (used_things db.indexes)))) (no.Full pool.HashTables 2)
+  refuse_if (nat_le most_tables (length (filter is_hash_table (used_things db.indexes)))) (no.Full pool.HashTables most_tables)
   refuse_if (nat_lt 2048 (length keys)) (no.Full pool.HashEntries 2048)
 
 abbrev pub create_index : Database → List ℕ → List ℕ → IndexKind → Outcome

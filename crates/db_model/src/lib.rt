@@ -16,7 +16,9 @@ pub use commands::{Agg, AggList, Command, Compare, Condition, Idents, Node, Quer
 pub use lists::Few;
 pub use names::Ident;
 pub use refusals::{Pool, Refusal};
-pub use schemas::{Attribute, Attributes, Domain, DomainAsked, IndexKind, Range, Schema};
+pub use schemas::{
+    Attribute, Attributes, Domain, DomainAsked, IndexKind, MOST_TABLES, Range, Schema,
+};
 pub use texts::Text;
 pub use tokens::{Keyword, Sign, Token};
 pub use values::{Tuple, Value};

@@ -53,6 +53,9 @@ pub struct Schema {
     pub attributes: Attributes,
 }
 
+/// The most hash tables that indexes of `MEMHASH` have in memory, as in `most_tables`.
+pub const MOST_TABLES: u16 = 2;
+
 /// How an index finds its keys.
 #[derive(Clone, Copy, Debug, PartialEq, Eq)]
 pub enum IndexKind {

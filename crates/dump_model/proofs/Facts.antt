@@ -10,7 +10,7 @@ use Rattle.db_model.specs.declared.schemas.Attribute.{Attribute}
 use Rattle.db_model.specs.declared.schemas.IndexKind.{IndexKind}
 use Rattle.db_model.specs.declared.schemas.IndexKind.TheVariants.{Inline, MaxHeap, MemHash}
 use Rattle.db_model.specs.Catalog.{Index, IsAttribute}
-use Rattle.db_model.specs.Database.{Relation, Database, used_things, is_among, is_on, is_hash_table}
+use Rattle.db_model.specs.Database.{Relation, Database, used_things, is_among, is_on, is_hash_table, most_tables}
 use Rattle.db_model.specs.Names.{is_name}
 use Rattle.db_model.specs.Row.{Row, AllRowsSuit, row_length}
 use Rattle.db_model.specs.Sound.{IsSoundAttribute, IsSoundDatabase, IsSoundIndex, IsSoundRelation, StandsIn, SuitKind, are_distinct, attribute_names}
@@ -34,7 +34,7 @@ pub record RelationFacts (r : Relation) : Type 0 where
 abbrev pub SuitsKind : IndexKind → List Index → ℕ → List Row → Type 0
 SuitsKind Inline before place rows = first_fall (keys place rows) ≡ None
 SuitsKind MaxHeap before place rows = ⊤
-SuitsKind MemHash before place rows = (length (filter is_hash_table before) < 2) × (length rows ≤ 2048)
+SuitsKind MemHash before place rows = (length (filter is_hash_table before) < most_tables) × (length rows ≤ 2048)
 
 pub record IndexFacts (relations : List (Option Relation)) (before : List Index) (index : Index) : Type 0 where
   pub relation : Relation

@@ -14,10 +14,10 @@ use Rattle.db_model.specs.HashTree.{buckets, node}
 use Rattle.index_tree.specs.Buckets.{IsFirstBucket, IsPairBytes}
 use Rattle.index_maxheap.specs.Builds.{AreLast, Builds, IsBlank, HasOtherDraft}
 use Rattle.index_tree.specs.Ends.{IsPathEnd, spot_of}
-use Rattle.index_tree.specs.Loads.{Counts, IsLevel, load_of, opened_bucket}
+use Rattle.index_tree.specs.Loads.{CountsPairs, IsLevel, load_of, opened_bucket}
 use Rattle.index_tree.specs.Pairs.{Pair, goes, pair_keys, pair_of, pairs_of, reaching}
 use Rattle.index_tree.specs.Places.{SlotsRise}
-use Rattle.index_tree.specs.TreeFile.{IsTree, next_number, bucket_place, number_of, place_of}
+use Rattle.index_tree.specs.TreeFile.{IsTree, next_number, bucket_place, number_of, numbered_place}
 use Rattle.index_tree.proofs.Added.{same_bucket, same_or, zero_or, passes_all}
 use Rattle.index_tree.proofs.Counted.{buckets_more, chain, all_stay}
 use Rattle.index_tree.proofs.Filters.{rises_map}
@@ -71,7 +71,7 @@ abbrev last_hop : List ℕ → ℤ → ℕ → ℕ
 last_hop loads key level = level + (get_or loads (node key level) 0 - 1) / 32
 
 -- that bucket has pairs
-last_some : (loads : List ℕ) (ps : List Pair) (key : ℤ) (level : ℕ) → Counts loads ps → level ≤ 4 → 0 < get_or loads (node key level) 0 → 0 < length (reaching (goes key) (last_hop loads key level) ps)
+last_some : (loads : List ℕ) (ps : List Pair) (key : ℤ) (level : ℕ) → CountsPairs loads ps → level ≤ 4 → 0 < get_or loads (node key level) 0 → 0 < length (reaching (goes key) (last_hop loads key level) ps)
 last_some loads ps key level counts low some =
     let each : get_or loads (node key level) 0 ≡ load_of level (length (reaching (goes key) level ps)) = counts.each key level low in
     ⊎_elim
@@ -119,24 +119,24 @@ end_length key ps q h full way =
 -- ---- blanks stay
 
 blank_pair : (tree w : List ℕ) (ps : List Pair) (q : Pair) (hop : ℕ) → IsTree tree ps → SlotsRise ps → IsBlank tree ps → IsPathEnd ps q.key hop → number_of tree q.key hop ≢ 0 → IsPairBytes w q →
-    IsBlank (put_at tree (place_of (number_of tree q.key hop) + 6 * length (reaching (goes q.key) hop ps)) w) (ps ++ q ∷ [])
+    IsBlank (put_at tree (numbered_place (number_of tree q.key hop) + 6 * length (reaching (goes q.key) hop ps)) w) (ps ++ q ∷ [])
 blank_pair tree w ps q hop is rises blank end some pair key h now x up down =
     let adds = adds_pair tree w ps q hop is end some pair in
     let m : ℕ = number_of tree q.key hop in
-    let at : ℕ = place_of m + 6 * length (reaching (goes q.key) hop ps) in
+    let at : ℕ = numbered_place m + 6 * length (reaching (goes q.key) hop ps) in
     let long : length w ≡ 6 = pair.long in
     let room = end.room in
     let fits : bucket_place m ≤ length tree = (is.each q.key hop).within some in
     let same : number_of (put_at tree at w) key h ≡ number_of tree key h = adds.numbers key h in
     let there : number_of tree key h ≢ 0 = rw same at now in
     let more = grown_length key ps q h in
-    let old : get_or tree (place_of (number_of tree key h) + x) 0 ≡ 0 = blank key h there x (omega (arith, up, more)) down in
+    let old : get_or tree (numbered_place (number_of tree key h) + x) 0 ≡ 0 = blank key h there x (omega (arith, up, more)) down in
     rw same (⊎_elim
     (λ (e : number_of tree key h ≡ m).
     let both = same_bucket tree ps is.each rises key q.key h hop there e in
     let len = end_length key ps q h (subst (λ (g : ℕ). Full q.key ps g) (sym both.0) end.full) both.1 in
     let len_ = ap (λ (g : ℕ). length (reaching (goes q.key) g ps)) both.0 in
-    byte_stays tree w at (place_of (number_of tree key h) + x) (omega (arith, long, fits, room)) (inr (omega (arith, long, e, up, len, len_))) ∙ old)
+    byte_stays tree w at (numbered_place (number_of tree key h) + x) (omega (arith, long, fits, room)) (inr (omega (arith, long, e, up, len, len_))) ∙ old)
     (λ (d : number_of tree key h ≢ m). (adds.others (number_of tree key h) there d).rest x down ∙ old)
     (same_or (number_of tree key h) m))
 
@@ -157,14 +157,14 @@ blank_bucket tree new ps q hop number a blank key h now x up down = ⊎_elim
 pub way_deep : (a b : ℤ) (l h : ℕ) → Way a b l → (l < h → 4 ≤ l) → Way a b h
 way_deep a b l h way deep i k = ⊎_elim (λ (out : l ≤ i). chain_same a b i (let d = deep (omega (arith, out, k)) in omega (arith, d, out))) (λ (in_ : i < l). way i in_) (order l i)
 
-ends_pair : (loads places tree new : List ℕ) (ps : List Pair) (q : Pair) (level : ℕ) → IsTree tree ps → Counts loads ps → AreLast loads places tree → IsLevel loads q.key level → get_or loads (node q.key level) 0 % 32 ≢ 0 →
+ends_pair : (loads places tree new : List ℕ) (ps : List Pair) (q : Pair) (level : ℕ) → IsTree tree ps → CountsPairs loads ps → AreLast loads places tree → IsLevel loads q.key level → get_or loads (node q.key level) 0 % 32 ≢ 0 →
     ((key : ℤ) (h : ℕ) → number_of tree key h ≢ 0 → number_of new key h ≡ number_of tree key h) → AreLast (set loads (node q.key level) (get_or loads (node q.key level) 0 + 1)) places new
 ends_pair loads places tree new ps q level is counts ends lev partial keeps key l low some =
     let n : ℕ = node q.key level in
     let v : ℕ = get_or loads n 0 + 1 in
     let small : n ≤ 340 = node_small q.key level lev.low in
     let long : length loads ≡ 341 = counts.long in
-    let last : 0 < get_or loads (node key l) 0 → (g : ℕ) → g ≡ last_hop loads key l → get_or places (node key l) 0 ≡ place_of (number_of new key g) = λ s g e.
+    let last : 0 < get_or loads (node key l) 0 → (g : ℕ) → g ≡ last_hop loads key l → get_or places (node key l) 0 ≡ numbered_place (number_of new key g) = λ s g e.
     rw e (rw (keeps key (last_hop loads key l) (number_some tree ps key (last_hop loads key l) is (last_some loads ps key l counts low s))) (ends key l low s)) in
     ⊎_elim
     (λ (e : node key l ≡ n).
@@ -182,8 +182,8 @@ ends_pair loads places tree new ps q level is counts ends lev partial keeps key 
     same_quotient : (k m a b : ℕ) → a ≡ m + 1 → b ≡ m → m % 32 ≢ 0 → k + (a - 1) / 32 ≡ k + (b - 1) / 32
     same_quotient k m a b e f p = ⊎_elim (λ (x : m % 32 ≤ 0). absurd (p (omega (arith, x)))) (λ (x : 0 < m % 32). omega (arith, x, e, f)) (order (m % 32) 0)
 
-ends_bucket : (loads places tree new : List ℕ) (ps : List Pair) (q : Pair) (level hop number : ℕ) → IsTree tree ps → Counts loads ps → length places ≡ 341 → AreLast loads places tree → IsLevel loads q.key level → hop ≡ level + get_or loads (node q.key level) 0 / 32 →
-    Appends tree new ps q hop number → AreLast (set loads (node q.key level) (get_or loads (node q.key level) 0 + 1)) (set places (node q.key level) (place_of number)) new
+ends_bucket : (loads places tree new : List ℕ) (ps : List Pair) (q : Pair) (level hop number : ℕ) → IsTree tree ps → CountsPairs loads ps → length places ≡ 341 → AreLast loads places tree → IsLevel loads q.key level → hop ≡ level + get_or loads (node q.key level) 0 / 32 →
+    Appends tree new ps q hop number → AreLast (set loads (node q.key level) (get_or loads (node q.key level) 0 + 1)) (set places (node q.key level) (numbered_place number)) new
 ends_bucket loads places tree new ps q level hop number is counts wide ends lev hop_is a key l low some =
     let n : ℕ = node q.key level in
     let v : ℕ = get_or loads n 0 + 1 in
@@ -194,18 +194,18 @@ ends_bucket loads places tree new ps q level hop number is counts wide ends lev 
     let both = node_way key q.key l level e in
     let same_level : l ≡ level = both.0 in
     let here : get_or (set loads n v) (node key l) 0 ≡ v = ap (λ (j : ℕ). get_or (set loads n v) j 0) e ∙ get_or-set_same loads n v 0 (omega (arith, small, long)) in
-    let place : get_or (set places n (place_of number)) (node key l) 0 ≡ place_of number = ap (λ (j : ℕ). get_or (set places n (place_of number)) j 0) e ∙ get_or-set_same places n (place_of number) 0 (omega (arith, small, wide)) in
+    let place : get_or (set places n (numbered_place number)) (node key l) 0 ≡ numbered_place number = ap (λ (j : ℕ). get_or (set places n (numbered_place number)) j 0) e ∙ get_or-set_same places n (numbered_place number) 0 (omega (arith, small, wide)) in
     let g : l + (get_or (set loads n v) (node key l) 0 - 1) / 32 ≡ hop = omega (arith, here, hop_is, same_level) in
     let upper : level < hop → 4 ≤ level = λ less. ⊎_elim (λ (x : 4 ≤ level). x) (λ (x : level < 4). let room = lev.room x in absurd (omega (arith, room, less, hop_is))) (order 4 level) in
     let way : Way key q.key hop = way_deep key q.key l hop both.1 (λ less. let u = upper (omega (arith, less, same_level)) in omega (arith, u, same_level)) in
-    rw g (place ∙ ap place_of (sym (named_at tree new ps q hop number a key hop (refl, way)))))
+    rw g (place ∙ ap numbered_place (sym (named_at tree new ps q hop number a key hop (refl, way)))))
     (λ (d : node key l ≢ n).
     let here : get_or (set loads n v) (node key l) 0 ≡ get_or loads (node key l) 0 = get_or-set_other loads n (node key l) v 0 d in
     let s : 0 < get_or loads (node key l) 0 = rw here at some in
     let there : number_of tree key (last_hop loads key l) ≢ 0 = number_some tree ps key (last_hop loads key l) is (last_some loads ps key l counts low s) in
     let grown : number_of new key (last_hop loads key l) ≡ number_of tree key (last_hop loads key l) = kept tree new ps q hop number a key (last_hop loads key l) (old_is_other tree new ps q hop number a key (last_hop loads key l) there) in
     let g : l + (get_or (set loads n v) (node key l) 0 - 1) / 32 ≡ last_hop loads key l = ap (λ (m : ℕ). l + (m - 1) / 32) here in
-    rw g (get_or-set_other places n (node key l) (place_of number) 0 d ∙ ends key l low s ∙ ap place_of (sym grown)))
+    rw g (get_or-set_other places n (node key l) (numbered_place number) 0 d ∙ ends key l low s ∙ ap numbered_place (sym grown)))
     (same_or (node key l) n)
 
 -- ---- the draft
@@ -248,14 +248,14 @@ module _ (loads places : List ℕ) (opens : ℕ) (draft : List ℕ) (ps : List P
   hop = end_.0
 
   -- a bucket that has pairs and room
-  open_bucket : load % 32 ≢ 0 → (number_of b.tree key hop ≢ 0) × (place ≡ place_of (number_of b.tree key hop))
+  open_bucket : load % 32 ≢ 0 → (number_of b.tree key hop ≢ 0) × (place ≡ numbered_place (number_of b.tree key hop))
   unfolding hop end_
   open_bucket partial =
       let some : 0 < load % 32 = positive (load % 32) partial in
       let same : level + (load - 1) / 32 ≡ hop = quotient level load hop some end_.2 in
       let len = end_.3 in (
         number_some b.tree ps key hop b.is (omega (arith, len, some)),
-        b.ends key level lev.low (omega (arith, some)) ∙ ap (λ (h : ℕ). place_of (number_of b.tree key h)) same,
+        b.ends key level lev.low (omega (arith, some)) ∙ ap (λ (h : ℕ). numbered_place (number_of b.tree key h)) same,
       )
     where
       positive : (n : ℕ) → n ≢ 0 → 0 < n
@@ -278,8 +278,8 @@ module _ (loads places : List ℕ) (opens : ℕ) (draft : List ℕ) (ps : List P
       slice_zeros draft (place + 6 * (load % 32)) 6 (omega (arith, at, within, fits, some))
       (λ i h.
       let x : ℕ = 6 * (load % 32) + i in
-      let e : place + 6 * (load % 32) + i ≡ place_of n + x = omega (arith, at) in
-      rw e (draft_front draft b.tree (place_of n + x) b.padding (omega (arith, within, some, h)) ∙ b.blank key hop open_.0 x (omega (arith, len)) (omega (arith, h))))
+      let e : place + 6 * (load % 32) + i ≡ numbered_place n + x = omega (arith, at) in
+      rw e (draft_front draft b.tree (numbered_place n + x) b.padding (omega (arith, within, some, h)) ∙ b.blank key hop open_.0 x (omega (arith, len)) (omega (arith, h))))
 
   pub tree_size : length b.tree ≡ bucket_place opens
   tree_size = b.is.size ∙ ap bucket_place (sym b.count)
@@ -311,7 +311,7 @@ module _ (loads places : List ℕ) (opens : ℕ) (draft : List ℕ) (ps : List P
       let last : ℕ = level + (load - 1) / 32 in
       let e : hop ≡ suc last = omega (arith, is, whole, some) in
       next s ∙ ap (λ (n : ℕ). n + 192) (b.ends key level low some)
-      ∙ sym (subst (λ (h : ℕ). spot_of b.tree key h ≡ place_of (number_of b.tree key last) + 192) (sym e) (spot_chain b.tree key last (omega (arith, deep)))))
+      ∙ sym (subst (λ (h : ℕ). spot_of b.tree key h ≡ numbered_place (number_of b.tree key last) + 192) (sym e) (spot_chain b.tree key last (omega (arith, deep)))))
       (zero_or load)
     where
       positive : (n : ℕ) → n ≢ 0 → 0 < n
@@ -343,7 +343,7 @@ module _ (loads places : List ℕ) (opens : ℕ) (draft : List ℕ) (ps : List P
       let some = open_.0 in
       let n : ℕ = number_of b.tree key hop in
       let len = end_.3 in
-      let at : ℕ = place_of n + 6 * length (reaching (goes key) hop ps) in
+      let at : ℕ = numbered_place n + 6 * length (reaching (goes key) hop ps) in
       let tree_ : List ℕ = put_at b.tree at w in
       let within : bucket_place n ≤ length b.tree = (b.is.each key hop).within some in
       let long : length w ≡ 6 = pair.long in
@@ -385,7 +385,7 @@ module _ (loads places : List ℕ) (opens : ℕ) (draft : List ℕ) (ps : List P
       let mid : List ℕ = b.tree ++ w in
       let sum : length mid ≡ length b.tree + length w = length-append b.tree w in
       let tree_ : List ℕ = put_at mid (spot_of b.tree key hop) two_ in
-      let place_is : place_of (opens + 1) ≡ length b.tree = sym (size ∙ ap bucket_place (sym (one_less opens))) in
+      let place_is : numbered_place (opens + 1) ≡ length b.tree = sym (size ∙ ap bucket_place (sym (one_less opens))) in
       let some : opens + 1 ≢ 0 = λ z. omega (arith, z) in
       let a = appends b.tree w two_ ps q hop (opens + 1) b.is b.rises end_.1 none is_first (rw (sym spot) (omega (arith, low, size))) two_long number some place_is in
       let grown = bucket_put b.tree tree_ ps q hop (opens + 1) a (omega (arith, many, few)) end_.1 in

@@ -6,7 +6,7 @@ use Rattle.db_model.specs.Cost.{keys_beside}
 use Rattle.db_model.specs.HashTree.{node}
 use Rattle.index_tree.specs.Ends.{spot_of}
 use Rattle.index_tree.specs.Pairs.{Pair, goes, reaching}
-use Rattle.index_tree.specs.TreeFile.{IsBucket, IsTree, bucket_place, key_at, next_at, number_of, place_of}
+use Rattle.index_tree.specs.TreeFile.{IsBucket, IsTree, bucket_place, key_at, next_at, number_of, numbered_place}
 use Rattle.index_tree.specs.Trees.{IsTreeOf, numbered}
 use Rattle.index_tree.proofs.Added.{zero_or}
 use Rattle.index_tree.proofs.Beside.{path_short}
@@ -16,7 +16,7 @@ use Rattle.index_tree.proofs.PutBucket.{spot_chain}
 use Rattle.index_tree.proofs.Reach.{deep}
 use Rattle.index_tree.proofs.Shared.{Full, order}
 use Rattle.index_maxheap.specs.Searches.{walk_left}
-use Rattle.index_maxheap.specs.Walks.{Finds, IsBeside, IsFullLowest, IsInChain, IsUnmet}
+use Rattle.index_maxheap.specs.Walks.{EndsPath, IsBeside, IsFullLowest, IsInChain, IsUnmet}
 use Rattle.index_maxheap.specs.declared.rooms.End.TheVariants as end
 use Rattle.index_maxheap.proofs.Walked.{full_more}
 
@@ -28,7 +28,7 @@ eq_of m n e = grind arith
 -- four bytes tell the first key of a bucket
 pub beside_is : (file part : List ℕ) (number m n : ℕ) (first key : ℤ) → part ≡ slice_range file (bucket_place (number - 1)) (bucket_place (number - 1) + 4) → first ≡ i32_at part 0 → m ≡ node first 4 → n ≡ node key 4 → nat_eq m n ≡ true → IsBeside file number key
 beside_is file part number m n first key is told a b same =
-    let its : i32_at part 0 ≡ key_at file (place_of number) 0 = i32_same part file 0 (place_of number + 0) (part_same file part (place_of number) (place_of number + 4) 0 4 is (omega arith)) in
+    let its : i32_at part 0 ≡ key_at file (numbered_place number) 0 = i32_same part file 0 (numbered_place number + 0) (part_same file part (numbered_place number) (numbered_place number + 4) 0 4 is (omega arith)) in
     ap (λ (k : ℤ). node k 4) (sym (told ∙ its)) ∙ sym a ∙ eq_of m n same ∙ b
 
 pub last_in_chain : (bytes : List ℕ) (keys : List ℤ) (key : ℤ) (last : ℕ) → IsTreeOf bytes keys → last ≢ 0 → bucket_place last ≤ length bytes → IsBeside bytes last key → IsUnmet bytes key 5 last → (hop : ℕ) × (5 ≤ hop) × IsInChain bytes key hop last
@@ -40,17 +40,17 @@ last_in_chain bytes keys key last tree some within beside unmet =
 
 -- ---- ends
 
-pub pair_end : (bytes : List ℕ) (ps : List Pair) (key : ℤ) (hop number pair at : ℕ) → Full key ps hop → number ≡ number_of bytes key hop → (number ≢ 0) × (length (reaching (goes key) hop ps) ≡ pair) × (pair < 32) → at ≡ bucket_place (number - 1) + 6 * pair → Finds (end.Pair at) bytes ps key
+pub pair_end : (bytes : List ℕ) (ps : List Pair) (key : ℤ) (hop number pair at : ℕ) → Full key ps hop → number ≡ number_of bytes key hop → (number ≢ 0) × (length (reaching (goes key) hop ps) ≡ pair) × (pair < 32) → at ≡ bucket_place (number - 1) + 6 * pair → EndsPath (end.Pair at) bytes ps key
 pair_end bytes ps key hop number pair at full there seen is =
     let long = seen.1 in
     let few = seen.2 in (
       hop,
       record { full = full; room = omega (arith, long, few) },
       subst (λ (n : ℕ). n ≢ 0) there seen.0,
-      is ∙ ap (λ (n : ℕ). place_of n + 6 * pair) there ∙ ap (λ (n : ℕ). place_of (number_of bytes key hop) + 6 * n) (sym long),
+      is ∙ ap (λ (n : ℕ). numbered_place n + 6 * pair) there ∙ ap (λ (n : ℕ). numbered_place (number_of bytes key hop) + 6 * n) (sym long),
     )
 
-pub bucket_end : (bytes : List ℕ) (ps : List Pair) (key : ℤ) (hop at : ℕ) → IsTree bytes ps → Full key ps hop → number_of bytes key hop ≡ 0 → at ≡ spot_of bytes key hop → Finds (end.Bucket at) bytes ps key
+pub bucket_end : (bytes : List ℕ) (ps : List Pair) (key : ℤ) (hop at : ℕ) → IsTree bytes ps → Full key ps hop → number_of bytes key hop ≡ 0 → at ≡ spot_of bytes key hop → EndsPath (end.Bucket at) bytes ps key
 bucket_end bytes ps key hop at tree full none is =
     let empty : length (reaching (goes key) hop ps) ≡ 0 = ap length ((tree.each key hop).none none) in
     (hop, record { full = full; room = omega (arith, empty) }, none, is)
@@ -63,22 +63,22 @@ chain_bucket bytes keys key hop number tree chain = subst (λ (n : ℕ). IsBucke
 pub chain_full : (bytes : List ℕ) (keys : List ℤ) (key : ℤ) (hop number : ℕ) → IsTreeOf bytes keys → IsInChain bytes key hop number → Full key (numbered 0 keys) hop
 chain_full bytes keys key hop number tree chain = full_to bytes (numbered 0 keys) key hop tree (subst (λ (n : ℕ). n ≢ 0) chain.there chain.some)
 
-pub chain_more : (bytes : List ℕ) (key : ℤ) (hop number next : ℕ) → IsInChain bytes key hop number → next ≡ next_at bytes (place_of number) → next ≢ 0 → IsInChain bytes key (hop + 1) next
+pub chain_more : (bytes : List ℕ) (key : ℤ) (hop number next : ℕ) → IsInChain bytes key hop number → next ≡ next_at bytes (numbered_place number) → next ≢ 0 → IsInChain bytes key (hop + 1) next
 chain_more bytes key hop number next chain is some = record {
   deep = (let far = chain.deep in omega (arith, far));
   there = is ∙ sym (chain_number bytes key number hop chain.there chain.some chain.deep);
   some = some;
 }
 
-pub chain_last : (bytes : List ℕ) (keys : List ℤ) (key : ℤ) (hop number next at : ℕ) → IsTreeOf bytes keys → IsInChain bytes key hop number → 32 ≤ length (reaching (goes key) hop (numbered 0 keys)) → next ≡ next_at bytes (place_of number) → next ≡ 0 → at ≡ bucket_place (number - 1) + 192 →
-    Finds (end.Bucket at) bytes (numbered 0 keys) key
+pub chain_last : (bytes : List ℕ) (keys : List ℤ) (key : ℤ) (hop number next at : ℕ) → IsTreeOf bytes keys → IsInChain bytes key hop number → 32 ≤ length (reaching (goes key) hop (numbered 0 keys)) → next ≡ next_at bytes (numbered_place number) → next ≡ 0 → at ≡ bucket_place (number - 1) + 192 →
+    EndsPath (end.Bucket at) bytes (numbered 0 keys) key
 chain_last bytes keys key hop number next at tree chain now onward none is =
     let ps : List Pair = numbered 0 keys in
-    let spot : spot_of bytes key (hop + 1) ≡ place_of (number_of bytes key hop) + 192 = rw add-one (spot_chain bytes key hop chain.deep) in
+    let spot : spot_of bytes key (hop + 1) ≡ numbered_place (number_of bytes key hop) + 192 = rw add-one (spot_chain bytes key hop chain.deep) in
     bucket_end bytes ps key (hop + 1) at tree
     (full_more key ps hop (chain_full bytes keys key hop number tree chain) now)
     (chain_number bytes key number hop chain.there chain.some chain.deep ∙ sym onward ∙ none)
-    (is ∙ ap (λ (n : ℕ). place_of n + 192) chain.there ∙ sym spot)
+    (is ∙ ap (λ (n : ℕ). numbered_place n + 192) chain.there ∙ sym spot)
 
 pub chain_near : (bytes : List ℕ) (keys : List ℤ) (key : ℤ) (hop number : ℕ) → IsTreeOf bytes keys → IsInChain bytes key hop number → hop ≤ 4 + keys_beside key keys / 32
 chain_near bytes keys key hop number tree chain =
@@ -101,11 +101,11 @@ level_bucket bytes ps key level number tree low is =
     let there : number ≡ number_of bytes key level = level_number bytes key level number low is in
     (there, subst (λ (n : ℕ). IsBucket bytes n (reaching (goes key) level ps)) (sym there) (tree.each key level))
 
-pub level_end : (bytes : List ℕ) (ps : List Pair) (key : ℤ) (level number at : ℕ) → IsTree bytes ps → level ≤ 4 → number ≡ u16_at bytes (2 * node key level) → number ≡ 0 → at ≡ 2 * node key level → Full key ps level → Finds (end.Bucket at) bytes ps key
+pub level_end : (bytes : List ℕ) (ps : List Pair) (key : ℤ) (level number at : ℕ) → IsTree bytes ps → level ≤ 4 → number ≡ u16_at bytes (2 * node key level) → number ≡ 0 → at ≡ 2 * node key level → Full key ps level → EndsPath (end.Bucket at) bytes ps key
 level_end bytes ps key level number at tree low is none spot full =
     bucket_end bytes ps key level at tree full (sym (level_bucket bytes ps key level number tree low is).0 ∙ none) (spot ∙ sym (node_spot bytes key level low))
 
-pub lowest_is : (bytes : List ℕ) (ps : List Pair) (key : ℤ) (level number next : ℕ) → level ≡ 4 → number ≡ number_of bytes key level → (number ≢ 0) × (32 ≤ length (reaching (goes key) level ps)) → next ≡ next_at bytes (place_of number) → IsFullLowest bytes ps key number next
+pub lowest_is : (bytes : List ℕ) (ps : List Pair) (key : ℤ) (level number next : ℕ) → level ≡ 4 → number ≡ number_of bytes key level → (number ≢ 0) × (32 ≤ length (reaching (goes key) level ps)) → next ≡ next_at bytes (numbered_place number) → IsFullLowest bytes ps key number next
 lowest_is bytes ps key level number next last there seen onward = record {
   place = record { deep = omega arith; there = subst (λ (h : ℕ). number ≡ number_of bytes key h) last there; some = seen.0 };
   full = subst (λ (h : ℕ). 32 ≤ length (reaching (goes key) h ps)) last seen.1;

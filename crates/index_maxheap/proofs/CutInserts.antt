@@ -11,7 +11,7 @@ use Rattle.db_model.specs.HashTree.{node}
 use Rattle.index_tree.specs.Ends.{spot_of}
 use Rattle.index_tree.specs.Pairs.{Pair, goes, reaching}
 use Rattle.index_tree.specs.Rules.{bucket_count}
-use Rattle.index_tree.specs.TreeFile.{NamesOnly, bucket_place, number_of, place_of, slot_at}
+use Rattle.index_tree.specs.TreeFile.{NamesOnly, bucket_place, number_of, numbered_place, slot_at}
 use Rattle.index_tree.specs.Trees.{IsTreeOf, numbered}
 use Rattle.index_tree.proofs.Frames.{put_here, put_outside}
 use Rattle.index_tree.proofs.Inserted.{grown_here, grown_new}
@@ -19,7 +19,7 @@ use Rattle.index_tree.proofs.Law.{tree_of_rules}
 use Rattle.index_tree.proofs.Numbered.{keys_first, numbered_length, rises_numbered}
 use Rattle.index_tree.proofs.Spots.{node_small}
 use Rattle.index_maxheap.specs.Rooms.{MayInsert, MayPutBucket, MayPutPair}
-use Rattle.index_maxheap.specs.Walks.{Finds}
+use Rattle.index_maxheap.specs.Walks.{EndsPath}
 use Rattle.index_maxheap.specs.declared.rooms.End.TheVariants as end
 use Rattle.index_maxheap.specs.declared.rooms.Room.{Room}
 use Rattle.index_maxheap.proofs.Grows.{tree_grown}
@@ -122,10 +122,10 @@ part_less old w at n q room few zero_there =
 
 -- ---- a pair
 
-pair_names : (old w : List ℕ) (n number pair slots : ℕ) → length w ≡ 6 → n ≤ 6 → number ≢ 0 → pair < 32 → bucket_place number ≤ length old → slot_at old (place_of number) pair ≡ 0
-    → NamesOnly slots (put_at old (place_of number + 6 * pair) w) → NamesOnly slots (put_at old (place_of number + 6 * pair) (take n w))
+pair_names : (old w : List ℕ) (n number pair slots : ℕ) → length w ≡ 6 → n ≤ 6 → number ≢ 0 → pair < 32 → bucket_place number ≤ length old → slot_at old (numbered_place number) pair ≡ 0
+    → NamesOnly slots (put_at old (numbered_place number + 6 * pair) w) → NamesOnly slots (put_at old (numbered_place number + 6 * pair) (take n w))
 pair_names old w n number pair slots long few some short fits empty names =
-    let at : ℕ = place_of number + 6 * pair in
+    let at : ℕ = numbered_place number + 6 * pair in
     let room : at + length w ≤ length old = omega (arith, long, short, fits, some) in
     let part_long : length (take n w) ≡ n = length-take-le n w (omega (arith, long, few)) in
     let same : length (put_at old at w) ≡ length old = length-put_at old w at room in
@@ -137,14 +137,14 @@ pair_names old w n number pair slots long few some short fits empty names =
     (λ low high past. by_place b j i number pair old some inside short two (omega (arith, low)) (omega (arith, high, long)) none))
     names
   where
-    by_place : (b j i number pair : ℕ) (old : List ℕ) → number ≢ 0 → j < 32 → pair < 32 → i < 2 → place_of number + 6 * pair ≤ slot_place b j + i → slot_place b j + i < place_of number + 6 * pair + 6
-        → (get_or old (place_of number + 6 * pair + 4 + 0) 0 ≡ 0) × (get_or old (place_of number + 6 * pair + 4 + 1) 0 ≡ 0) → get_or old (slot_place b j + i) 0 ≡ 0
+    by_place : (b j i number pair : ℕ) (old : List ℕ) → number ≢ 0 → j < 32 → pair < 32 → i < 2 → numbered_place number + 6 * pair ≤ slot_place b j + i → slot_place b j + i < numbered_place number + 6 * pair + 6
+        → (get_or old (numbered_place number + 6 * pair + 4 + 0) 0 ≡ 0) × (get_or old (numbered_place number + 6 * pair + 4 + 1) 0 ≡ 0) → get_or old (slot_place b j + i) 0 ≡ 0
     by_place b j i number pair old some inside short two low high none = ⊎_elim
         (λ (first : i < 1).
-        let e : slot_place b j + i ≡ place_of number + 6 * pair + 4 + 0 = omega (arith, some, inside, short, two, low, high, first) in
+        let e : slot_place b j + i ≡ numbered_place number + 6 * pair + 4 + 0 = omega (arith, some, inside, short, two, low, high, first) in
         ap (λ (m : ℕ). get_or old m 0) e ∙ none.0)
         (λ (second : 1 ≤ i).
-        let e : slot_place b j + i ≡ place_of number + 6 * pair + 4 + 1 = omega (arith, some, inside, short, two, low, high, second) in
+        let e : slot_place b j + i ≡ numbered_place number + 6 * pair + 4 + 1 = omega (arith, some, inside, short, two, low, high, second) in
         ap (λ (m : ℕ). get_or old m 0) e ∙ none.1)
         (cases_lt i 1)
 
@@ -229,13 +229,13 @@ module _ (old after : State) (index slot : ℕ) (room : Room) (key : ℤ) (few :
     names = λ keys tree many room_is.
         let ps : List Pair = numbered 0 keys in
         let long = numbered_length 0 keys in
-        let found : Finds (end.Pair at) bytes ps key = subst (λ e. Finds e bytes ps key) is (room_told room bytes keys key tree room_is) in
+        let found : EndsPath (end.Pair at) bytes ps key = subst (λ e. EndsPath e bytes ps key) is (room_told room bytes keys key tree room_is) in
         let hop : ℕ = found.0 in
         let number : ℕ = number_of bytes key hop in
         let rest : List Pair = reaching (goes key) hop ps in
-        let place : at ≡ place_of number + 6 * length rest = found.3 in
+        let place : at ≡ numbered_place number + 6 * length rest = found.3 in
         let bucket = tree.each key hop in
-        let full : List ℕ = put_at bytes (place_of number + 6 * length rest) m.six in
+        let full : List ℕ = put_at bytes (numbered_place number + 6 * length rest) m.six in
         let grown = grown_here bytes full m.six ps q hop number (length rest) tree (rises_numbered 0 keys) (omega (arith, many, few, long)) found.1 refl refl found.2 m.pair_is refl in
         let whole : NamesOnly (slot + 1) full = names_more (length (keys ++ key ∷ [])) (slot + 1) full (let n = length-append keys (key ∷ []) in omega (arith, n, many)) (tree_names full (keys ++ key ∷ []) (tree_grown bytes full keys key slot many grown)) in
         subst (NamesOnly (slot + 1)) (sym (m.bytes ∙ ap (λ (n : ℕ). put_at bytes n (take m.done m.six)) place))
@@ -249,7 +249,7 @@ module _ (old after : State) (index slot : ℕ) (room : Room) (key : ℤ) (few :
     names = λ keys tree many room_is.
         let ps : List Pair = numbered 0 keys in
         let long = numbered_length 0 keys in
-        let found : Finds (end.Bucket at) bytes ps key = subst (λ e. Finds e bytes ps key) is (room_told room bytes keys key tree room_is) in
+        let found : EndsPath (end.Bucket at) bytes ps key = subst (λ e. EndsPath e bytes ps key) is (room_told room bytes keys key tree room_is) in
         let full : List ℕ = put_at (bytes ++ m.bucket) at m.two in
         let grown = grown_new bytes full m.bucket m.two ps q found.0 at tree (rises_numbered 0 keys) (omega (arith, many, few, long)) found.1 found.2 found.3 fits m.first m.long m.number refl in
         let whole : NamesOnly (slot + 1) full = names_more (length (keys ++ key ∷ [])) (slot + 1) full (let n = length-append keys (key ∷ []) in omega (arith, n, many)) (tree_names full (keys ++ key ∷ []) (tree_grown bytes full keys key slot many grown)) in

@@ -10,11 +10,11 @@ use Rattle.index_tree.specs.TreeFile.{IsTree, number_of}
 use Rattle.index_tree.proofs.Inserted.{by_bucket, by_pair}
 use Rattle.index_tree.proofs.Numbered.{numbered_length, numbered_one, rises_numbered}
 use Rattle.index_maxheap.specs.Rooms.{PutsBucket, PutsPair}
-use Rattle.index_maxheap.specs.Walks.{Finds}
+use Rattle.index_maxheap.specs.Walks.{EndsPath}
 use Rattle.index_maxheap.specs.declared.rooms.End.TheVariants as end
 
 pub grown_pair : (old new : State) (index at slot : ℕ) (keys : List ℤ) (key : ℤ) → IsTrue old.tells → IsTreeOf (bytes_at old.files index) keys → length keys ≡ slot → slot < 32768 →
-    Finds (end.Pair at) (bytes_at old.files index) (numbered 0 keys) key → PutsPair old new index at (record { key = key; slot = slot }) →
+    EndsPath (end.Pair at) (bytes_at old.files index) (numbered 0 keys) key → PutsPair old new index at (record { key = key; slot = slot }) →
     IsGrown (bytes_at old.files index) (bytes_at new.files index) (numbered 0 keys) (record { key = key; slot = slot } ∷ [])
 grown_pair old new index at slot keys key told tree many few found puts =
     let ps : List Pair = numbered 0 keys in
@@ -25,7 +25,7 @@ grown_pair old new index at slot keys key told tree many few found puts =
     (puts.0, puts.1, subst (λ (n : ℕ). Becomes old new index (size_at old.files index) (put_at bytes n puts.0)) found.3 puts.2)
 
 pub grown_bucket : (old new : State) (index at slot : ℕ) (keys : List ℤ) (key : ℤ) → IsTrue old.tells → IsTreeOf (bytes_at old.files index) keys → length keys ≡ slot → slot < 32768 → at + 3 ≤ size_at old.files index →
-    Finds (end.Bucket at) (bytes_at old.files index) (numbered 0 keys) key → PutsBucket old new index at (record { key = key; slot = slot }) →
+    EndsPath (end.Bucket at) (bytes_at old.files index) (numbered 0 keys) key → PutsBucket old new index at (record { key = key; slot = slot }) →
     IsGrown (bytes_at old.files index) (bytes_at new.files index) (numbered 0 keys) (record { key = key; slot = slot } ∷ [])
 grown_bucket old new index at slot keys key told tree many few fits found puts =
     let long = numbered_length 0 keys in

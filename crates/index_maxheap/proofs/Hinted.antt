@@ -3,7 +3,7 @@ use Rattle.std.proofs.Common.{◌≡◌, ◌≢◌, ◌≤◌, ◌<◌, ◌+◌,
 use Rattle.std.specs.Prelude.{Some, slice_range}
 use Rattle.afl_base.specs.Fields.{u16_at}
 use Rattle.db_model.specs.HashTree.{node}
-use Rattle.index_tree.specs.TreeFile.{bucket_place, key_at, number_of, place_of, slot_at}
+use Rattle.index_tree.specs.TreeFile.{bucket_place, key_at, number_of, numbered_place, slot_at}
 use Rattle.index_tree.specs.Trees.{IsTreeOf}
 use Rattle.index_tree.proofs.OnPath.{node_number, pair_on_path, place_behind}
 use Rattle.index_tree.proofs.Shared.{order}
@@ -28,7 +28,7 @@ past_more bytes key bucket number level low is other past i less = ⊎_elim
 pub behind_is : (file part : List ℕ) (key : ℤ) (from : ℕ) (place : Place) → part ≡ slice_range file (bucket_place (place.bucket - 1)) (bucket_place (place.bucket - 1) + 195) → 0 < place.pair → place.pair ≤ 32 → key_at part 0 (place.pair - 1) ≡ key → slot_at part 0 (place.pair - 1) ≡ from → IsBehind file key from place
 behind_is file part key from place is low short its slot =
     let last : place.pair - 1 < 32 = omega (arith, low, short) in
-    (sym (key_part file part (place_of place.bucket) (place.pair - 1) is last) ∙ its, sym (slot_part file part (place_of place.bucket) (place.pair - 1) is last) ∙ slot)
+    (sym (key_part file part (numbered_place place.bucket) (place.pair - 1) is last) ∙ its, sym (slot_part file part (numbered_place place.bucket) (place.pair - 1) is last) ∙ slot)
 
 pub on_path_behind : (bytes : List ℕ) (keys : List ℤ) (key : ℤ) (from : ℕ) (place : Place) → IsTreeOf bytes keys → MayStand place from (length bytes) → IsBehind bytes key from place → (hop : ℕ) × (place.bucket ≡ number_of bytes key hop)
 on_path_behind bytes keys key from place tree stands behind =

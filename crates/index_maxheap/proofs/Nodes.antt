@@ -8,8 +8,8 @@ use Rattle.afl_base.specs.Fields.{u16_at}
 use Rattle.db_model.specs.HashTree.{digit, mixed, node}
 use Rattle.index_tree.specs.Loads.{load_of}
 use Rattle.index_tree.specs.Pairs.{Pair, goes, reaching}
-use Rattle.index_tree.specs.TreeFile.{HoldsPairs, IsTree, next_at, number_of, place_of}
-use Rattle.index_maxheap.specs.Verify.{AreHeads, IsDone, IsTail, Verifies, hop_of}
+use Rattle.index_tree.specs.TreeFile.{HoldsPairs, IsTree, next_at, number_of, numbered_place}
+use Rattle.index_maxheap.specs.Verify.{AreHeads, IsNodeDone, IsTail, Verifies, hop_of}
 use Rattle.index_maxheap.proofs.Built.{chain_length}
 use Rattle.index_tree.proofs.Counted.{chain}
 use Rattle.index_tree.proofs.Frames.{part_same, u16_same}
@@ -74,7 +74,7 @@ node_key n small = ⊎_elim
 
 -- ---- what a tree's nodes have
 
-fill_is : (bytes : List ℕ) (number place next fill level : ℕ) (rest : List Pair) → IsTail bytes number place next fill level → HoldsPairs bytes (place_of number) rest → length rest ≤ 32 → fill ≡ length rest
+fill_is : (bytes : List ℕ) (number place next fill level : ℕ) (rest : List Pair) → IsTail bytes number place next fill level → HoldsPairs bytes (numbered_place number) rest → length rest ≤ 32 → fill ≡ length rest
 fill_is bytes number place next fill level rest tail holds few =
     let most = tail.few in
     ⊎_elim
@@ -85,7 +85,7 @@ fill_is bytes number place next fill level rest tail holds few =
     (λ (past : length rest < fill). absurd (tail.some (length rest) past (holds.empty (length rest) (omega (arith, past, most)) (omega arith))))
     (order fill (length rest))
 
-fill_min : (bytes : List ℕ) (number place next fill level : ℕ) (rest : List Pair) → IsTail bytes number place next fill level → HoldsPairs bytes (place_of number) rest → fill ≡ min 32 (length rest)
+fill_min : (bytes : List ℕ) (number place next fill level : ℕ) (rest : List Pair) → IsTail bytes number place next fill level → HoldsPairs bytes (numbered_place number) rest → fill ≡ min 32 (length rest)
 fill_min bytes number place next fill level rest tail holds =
     let most = tail.few in
     ⊎_elim
@@ -100,12 +100,12 @@ fill_min bytes number place next fill level rest tail holds =
     (order fill (length rest))
 
 -- a tree's nodes are done
-pub tree_done : (bytes loads places nexts fills : List ℕ) (ps : List Pair) → IsTree bytes ps → Verifies bytes loads places nexts fills ps → (n : ℕ) → n < 341 → IsDone bytes n (get_or loads n 0) (get_or nexts n 0) (get_or fills n 0)
+pub tree_done : (bytes loads places nexts fills : List ℕ) (ps : List Pair) → IsTree bytes ps → Verifies bytes loads places nexts fills ps → (n : ℕ) → n < 341 → IsNodeDone bytes n (get_or loads n 0) (get_or nexts n 0) (get_or fills n 0)
 tree_done bytes loads places nexts fills ps tree v n small =
     let found = node_key n small in
-    subst (λ (m : ℕ). IsDone bytes m (get_or loads m 0) (get_or nexts m 0) (get_or fills m 0)) found.3 (at_key found.0 found.1 found.2)
+    subst (λ (m : ℕ). IsNodeDone bytes m (get_or loads m 0) (get_or nexts m 0) (get_or fills m 0)) found.3 (at_key found.0 found.1 found.2)
   where
-    at_key : (key : ℤ) (level : ℕ) → level ≤ 4 → IsDone bytes (node key level) (get_or loads (node key level) 0) (get_or nexts (node key level) 0) (get_or fills (node key level) 0)
+    at_key : (key : ℤ) (level : ℕ) → level ≤ 4 → IsNodeDone bytes (node key level) (get_or loads (node key level) 0) (get_or nexts (node key level) 0) (get_or fills (node key level) 0)
     at_key key level low =
         let each = v.counts.each key level low in
         ⊎_elim
@@ -128,7 +128,7 @@ tree_done bytes loads places nexts fills ps tree v n small =
         let there : 0 < length (reaching (goes key) hop ps) = omega (arith, long, load, some) in
         let number = some_number key hop there in
         let fill = fill_is bytes (number_of bytes key hop) (get_or places (node key level) 0) (get_or nexts (node key level) 0) (get_or fills (node key level) 0) level (reaching (goes key) hop ps) tail ((tree.each key hop).holds number) (omega (arith, long, load, some)) in
-        let onward : number_of bytes key (suc hop) ≡ next_at bytes (place_of (number_of bytes key hop)) = behind_chain bytes key hop (number_of bytes key hop) number (omega (arith, is)) in
+        let onward : number_of bytes key (suc hop) ≡ next_at bytes (numbered_place (number_of bytes key hop)) = behind_chain bytes key hop (number_of bytes key hop) number (omega (arith, is)) in
         inr (some, fill ∙ omega (arith, long, load, some), tail.onward ∙ sym onward ∙ zero_number key (suc hop) (omega (arith, after, load, some))))
         (λ (upper : level < 4).
         let load = load_upper level (length (reaching (goes key) level ps)) upper in
@@ -153,7 +153,7 @@ tree_done bytes loads places nexts fills ps tree v n small =
         some_number : (k : ℤ) (h : ℕ) → 0 < length (reaching (goes k) h ps) → number_of bytes k h ≢ 0
         some_number k h s = λ z. let e : length (reaching (goes k) h ps) ≡ 0 = ap length ((tree.each k h).none z) in omega (arith, e, s)
 
-        upper_fill : (k : ℤ) (l h load : ℕ) → IsTail bytes (number_of bytes k h) (get_or places (node k l) 0) (get_or nexts (node k l) 0) (get_or fills (node k l) 0) l → HoldsPairs bytes (place_of (number_of bytes k h)) (reaching (goes k) h ps) →
+        upper_fill : (k : ℤ) (l h load : ℕ) → IsTail bytes (number_of bytes k h) (get_or places (node k l) 0) (get_or nexts (node k l) 0) (get_or fills (node k l) 0) l → HoldsPairs bytes (numbered_place (number_of bytes k h)) (reaching (goes k) h ps) →
             length (reaching (goes k) h ps) ≡ length (reaching (goes k) l ps) → load ≡ load_of l (length (reaching (goes k) l ps)) → load_of l (length (reaching (goes k) l ps)) ≡ min 32 (length (reaching (goes k) l ps)) → 0 < length (reaching (goes k) h ps) → get_or fills (node k l) 0 ≡ (load - 1) % 32 + 1
         upper_fill k l h load tail holds same each min_is there = let fill = fill_min bytes (number_of bytes k h) (get_or places (node k l) 0) (get_or nexts (node k l) 0) (get_or fills (node k l) 0) l (reaching (goes k) h ps) tail holds in omega (arith, fill, same, each, min_is, there)
 
@@ -166,10 +166,10 @@ pub head_mark : (bytes heads : List ℕ) → heads ≡ slice_range bytes 0 683 �
 head_mark bytes heads is = part_same bytes heads 0 683 682 1 is (omega arith) 0 (omega arith)
 
 -- the answers of the nodes are those of the file
-pub done_heads : (bytes heads : List ℕ) (n load next fill : ℕ) → AreHeads heads bytes → n < 341 → ((load ≡ 0) × (u16_at heads (2 * n) ≡ 0)) ⊎ ((0 < load) × (fill ≡ (load - 1) % 32 + 1) × (next ≡ 0)) → IsDone bytes n load next fill
+pub done_heads : (bytes heads : List ℕ) (n load next fill : ℕ) → AreHeads heads bytes → n < 341 → ((load ≡ 0) × (u16_at heads (2 * n) ≡ 0)) ⊎ ((0 < load) × (fill ≡ (load - 1) % 32 + 1) × (next ≡ 0)) → IsNodeDone bytes n load next fill
 done_heads bytes heads n load next fill are small (inl x) = inl (x.0, sym (are n (omega (arith, small))) ∙ x.1)
 done_heads bytes heads n load next fill are small (inr x) = inr x
 
-pub heads_done : (bytes heads : List ℕ) (n load next fill : ℕ) → AreHeads heads bytes → n < 341 → IsDone bytes n load next fill → ((load ≡ 0) × (u16_at heads (2 * n) ≡ 0)) ⊎ ((0 < load) × (fill ≡ (load - 1) % 32 + 1) × (next ≡ 0))
+pub heads_done : (bytes heads : List ℕ) (n load next fill : ℕ) → AreHeads heads bytes → n < 341 → IsNodeDone bytes n load next fill → ((load ≡ 0) × (u16_at heads (2 * n) ≡ 0)) ⊎ ((0 < load) × (fill ≡ (load - 1) % 32 + 1) × (next ≡ 0))
 heads_done bytes heads n load next fill are small (inl x) = inl (x.0, are n (omega (arith, small)) ∙ x.1)
 heads_done bytes heads n load next fill are small (inr x) = inr x

@@ -7,14 +7,14 @@ use Rattle.db_model.specs.Cost.{keys_beside}
 use Rattle.db_model.specs.HashTree.{node}
 use Rattle.index_tree.specs.Pairs.{Pair, goes, reaching}
 use Rattle.index_tree.specs.Places.{IsOnPath, IsPlaceAt, is_wanted, to_come}
-use Rattle.index_tree.specs.TreeFile.{HoldsPairs, next_number, bucket_place, number_of, place_of}
+use Rattle.index_tree.specs.TreeFile.{HoldsPairs, next_number, bucket_place, number_of, numbered_place}
 use Rattle.index_tree.specs.Trees.{IsTreeOf, numbered}
 use Rattle.index_tree.proofs.Beside.{path_short}
 use Rattle.index_tree.proofs.Numbered.{numbered_length}
 use Rattle.index_tree.proofs.PutBucket.{behind_chain, behind_node}
 use Rattle.index_tree.proofs.Reach.{ahead_hop, deep}
 use Rattle.index_tree.proofs.Stays.{goes_wanted}
-use Rattle.index_maxheap.specs.Searches.{IsPlaceOf, Scans, Steps, TellsHop, walk_left}
+use Rattle.index_maxheap.specs.Searches.{IsPlaceOf, Scans, LooksInto, TellsHop, walk_left}
 use Rattle.index_maxheap.specs.declared.places.Place.{Place}
 use Rattle.index_maxheap.specs.declared.searching.Scanned.TheVariants as scanned
 use Rattle.index_maxheap.specs.declared.searching.Step.TheVariants as step
@@ -45,14 +45,14 @@ pub held : (bytes part : List ℕ) (keys : List ℤ) (key : ℤ) (from number pa
 held bytes part keys key from number pair hop tree at is =
     let rest : List Pair = reaching (goes key) hop (numbered 0 keys) in
     let holds = (tree.each key hop).holds (subst (λ (n : ℕ). n ≢ 0) at.there at.some) in
-    holds_part bytes part (place_of number) rest is (subst (λ (n : ℕ). HoldsPairs bytes (place_of n) rest) (sym at.there) holds)
+    holds_part bytes part (numbered_place number) rest is (subst (λ (n : ℕ). HoldsPairs bytes (numbered_place n) rest) (sym at.there) holds)
 
 -- behind a full bucket what is wanted comes in the next
 onward : (ps : List Pair) (key : ℤ) (from hop : ℕ) → to_come ps key from hop 32 ≡ to_come ps key from (hop + 1) 0
 onward ps key from hop = ahead_hop (is_wanted key from) (goes key) (goes_wanted key from) ps hop
 
 pub found_step : (bytes : List ℕ) (keys : List ℤ) (key : ℤ) (from : ℕ) (place : Place) (pair slot : ℕ) → from ≤ slot → (at : IsPlaceOf bytes keys key from (Some place)) → Scans (scanned.Found pair slot) key from (reaching (goes key) at.0 (numbered 0 keys)) place.pair →
-    Steps (step.Found slot (record { bucket = place.bucket; pair = pair + 1; hop = place.hop })) bytes keys key from
+    LooksInto (step.Found slot (record { bucket = place.bucket; pair = pair + 1; hop = place.hop })) bytes keys key from
 found_step bytes keys key from place pair slot order at scans =
     let ps : List Pair = numbered 0 keys in
     let rest : List Pair = reaching (goes key) at.0 ps in

@@ -5,9 +5,9 @@ use Rattle.std.proofs.lemmas.List.{length-set}
 use Rattle.afl_base.specs.Fields.{i32_at, u16_at}
 use Rattle.db_model.specs.HashTree.{buckets, node}
 use Rattle.index_tree.specs.Ends.{IsPathEnd}
-use Rattle.index_tree.specs.Loads.{Counts, IsLevel, opened_bucket}
+use Rattle.index_tree.specs.Loads.{CountsPairs, IsLevel, opened_bucket}
 use Rattle.index_tree.specs.Pairs.{Pair, goes, pair_keys, pair_of, pairs_of, reaching}
-use Rattle.index_tree.specs.TreeFile.{IsTree, number_of, place_of}
+use Rattle.index_tree.specs.TreeFile.{IsTree, number_of, numbered_place}
 use Rattle.index_tree.specs.Buckets.{HasPair}
 use Rattle.index_maxheap.specs.Verify.{AreHeads, IsTail, Opens, Verifies, hop_of}
 use Rattle.index_tree.proofs.Added.{zero_or}
@@ -34,7 +34,7 @@ module _ (bytes loads places nexts fills : List ℕ) (f : ℕ → ℤ) (slot lev
   pub hop : ℕ
   hop = end_.0
 
-  counts : (next : List Pair) → next ≡ pairs_of f (slot + 1) → Counts (set loads n (load + 1)) next
+  counts : (next : List Pair) → next ≡ pairs_of f (slot + 1) → CountsPairs (set loads n (load + 1)) next
   counts next is = rw (is, pairs_more f slot) (counts_more loads (pairs_of f slot) (pair_of f slot) level v.counts lev)
 
   pub buckets_one : (m : ℕ) → m ≡ opened_bucket (load % 32) → buckets (pair_keys (pairs_of f (slot + 1))) ≡ buckets (pair_keys (pairs_of f slot)) + m
@@ -115,7 +115,7 @@ module _ (bytes loads places nexts fills : List ℕ) (f : ℕ → ℤ) (slot lev
       positive zero s = absurd (s refl)
       positive (suc m) s = omega arith
 
-  pub bucket_seen : (number next fill place : ℕ) → load % 32 ≡ 0 → number ≡ number_of bytes (f slot) hop → place ≡ place_of number → HasPair bytes number 0 (pair_of f slot) → IsTail bytes number (place_of number) next fill level →
+  pub bucket_seen : (number next fill place : ℕ) → load % 32 ≡ 0 → number ≡ number_of bytes (f slot) hop → place ≡ numbered_place number → HasPair bytes number 0 (pair_of f slot) → IsTail bytes number (numbered_place number) next fill level →
       Verifies bytes (set loads n (load + 1)) (set places n place) (set nexts n next) (set fills n fill) (pairs_of f (slot + 1))
   unfolding hop end_
   bucket_seen number next fill place whole is at one tail =
@@ -125,7 +125,7 @@ module _ (bytes loads places nexts fills : List ℕ) (f : ℕ → ℤ) (slot lev
         counts = counts (pairs_of f (slot + 1)) refl;
         three = (length-set places n place ∙ v.three.0, length-set nexts n next ∙ v.three.1, length-set fills n fill ∙ v.three.2);
         seen = rw (pairs_more f slot) (seen_more bytes (pairs_of f slot) (pair_of f slot) end_.0 v.seen end_.1 here);
-        tails = rw at (tails_bucket bytes loads places nexts fills (f slot) level end_.0 (place_of number) next fill lev v.counts.long v.three.0 v.three.1 v.three.2 v.tails end_.2 whole (subst (λ (m : ℕ). IsTail bytes m (place_of number) next fill level) is tail));
+        tails = rw at (tails_bucket bytes loads places nexts fills (f slot) level end_.0 (numbered_place number) next fill lev v.counts.long v.three.0 v.three.1 v.three.2 v.tails end_.2 whole (subst (λ (m : ℕ). IsTail bytes m (numbered_place number) next fill level) is tail));
       }
 
   pub bucket_wrong : (number : ℕ) → load % 32 ≡ 0 → number ≡ number_of bytes (f slot) hop → Opens None bytes number level (pair_of f slot) → (slots : ℕ) → slot < slots → IsTree bytes (pairs_of f slots) → ⊥

@@ -5,10 +5,10 @@ use Rattle.std.proofs.lemmas.List.{get_or-set_other, get_or-set_same, get_or_app
 use Rattle.std.proofs.Math.Seq.{get_or-append_seam}
 use Rattle.db_model.specs.HashTree.{buckets, node}
 use Rattle.index_tree.specs.Ends.{IsPathEnd}
-use Rattle.index_tree.specs.Loads.{Counts, IsLevel, load_of}
+use Rattle.index_tree.specs.Loads.{CountsPairs, IsLevel, load_of}
 use Rattle.index_tree.specs.Pairs.{Pair, goes, pair_keys, no_pair, reaching}
-use Rattle.index_tree.specs.TreeFile.{HoldsPairs, IsTree, next_number, bucket_place, key_at, next_at, bucket_number, number_of, place_of, slot_at}
-use Rattle.index_maxheap.specs.Verify.{AreSeen, AreTails, Has, IsDone, IsTail, hop_of}
+use Rattle.index_tree.specs.TreeFile.{HoldsPairs, IsTree, next_number, bucket_place, key_at, next_at, bucket_number, number_of, numbered_place, slot_at}
+use Rattle.index_maxheap.specs.Verify.{AreSeen, AreTails, Has, IsNodeDone, IsTail, hop_of}
 use Rattle.index_tree.specs.Buckets.{HasPair}
 use Rattle.index_tree.proofs.Added.{number_same, only_end, same_or}
 use Rattle.index_maxheap.proofs.Built.{chain_length, way_deep}
@@ -22,14 +22,14 @@ use Rattle.index_tree.proofs.Owned.{none_of}
 -- ---- the last bucket of a node
 
 -- a bucket of an upper node is its last
-upper_hop : (loads : List ℕ) (ps : List Pair) (key : ℤ) (hop : ℕ) → Counts loads ps → hop < 4 → 0 < length (reaching (goes key) hop ps) → (0 < get_or loads (node key hop) 0) × (hop_of hop (get_or loads (node key hop) 0) ≡ hop) × (length (reaching (goes key) hop ps) ≤ 32 → (get_or loads (node key hop) 0 - 1) % 32 + 1 ≡ length (reaching (goes key) hop ps))
+upper_hop : (loads : List ℕ) (ps : List Pair) (key : ℤ) (hop : ℕ) → CountsPairs loads ps → hop < 4 → 0 < length (reaching (goes key) hop ps) → (0 < get_or loads (node key hop) 0) × (hop_of hop (get_or loads (node key hop) 0) ≡ hop) × (length (reaching (goes key) hop ps) ≤ 32 → (get_or loads (node key hop) 0 - 1) % 32 + 1 ≡ length (reaching (goes key) hop ps))
 upper_hop loads ps key hop counts low some =
     let each = counts.each key hop (omega (arith, low)) in
     let load = load_upper hop (length (reaching (goes key) hop ps)) low in
     (omega (arith, each, load, some), omega (arith, each, load, some), λ few. omega (arith, each, load, some, few))
 
 -- a bucket of a chain with at most 32 pairs to come is the last
-chain_hop : (loads : List ℕ) (ps : List Pair) (key : ℤ) (hop : ℕ) → Counts loads ps → 4 ≤ hop → 0 < length (reaching (goes key) hop ps) → length (reaching (goes key) hop ps) ≤ 32 →
+chain_hop : (loads : List ℕ) (ps : List Pair) (key : ℤ) (hop : ℕ) → CountsPairs loads ps → 4 ≤ hop → 0 < length (reaching (goes key) hop ps) → length (reaching (goes key) hop ps) ≤ 32 →
     (0 < get_or loads (node key 4) 0) × (hop_of 4 (get_or loads (node key 4) 0) ≡ hop) × ((get_or loads (node key 4) 0 - 1) % 32 + 1 ≡ length (reaching (goes key) hop ps))
 chain_hop loads ps key hop counts deep some few =
     let each : get_or loads (node key 4) 0 ≡ length (reaching (goes key) 4 ps) = counts.each key 4 (omega arith) in
@@ -41,8 +41,8 @@ pub number_node : (bytes : List ℕ) (key : ℤ) (hop : ℕ) → hop ≤ 4 → n
 number_node bytes key zero h = refl
 number_node bytes key (suc hop) h = behind_node bytes key hop (number_of bytes key hop) (omega (arith, h))
 
-module _ (bytes loads places nexts fills : List ℕ) (ps : List Pair) (counts : Counts loads ps) (seen : AreSeen bytes ps) (tails : AreTails bytes loads places nexts fills)
-    (done : (n : ℕ) → n < 341 → IsDone bytes n (get_or loads n 0) (get_or nexts n 0) (get_or fills n 0)) where
+module _ (bytes loads places nexts fills : List ℕ) (ps : List Pair) (counts : CountsPairs loads ps) (seen : AreSeen bytes ps) (tails : AreTails bytes loads places nexts fills)
+    (done : (n : ℕ) → n < 341 → IsNodeDone bytes n (get_or loads n 0) (get_or nexts n 0) (get_or fills n 0)) where
   at_node : (key : ℤ) (hop : ℕ) → hop ≤ 4 → length (reaching (goes key) hop ps) ≡ 0 → number_of bytes key hop ≡ 0
   at_node key hop low none =
       let small = node_small key hop low in
@@ -60,14 +60,14 @@ module _ (bytes loads places nexts fills : List ℕ) (ps : List Pair) (counts : 
       load_zero (suc (suc (suc zero))) = refl
       load_zero (suc (suc (suc (suc l)))) = refl
 
-  end_next : (key : ℤ) (level hop : ℕ) → level ≤ 4 → 0 < get_or loads (node key level) 0 → hop_of level (get_or loads (node key level) 0) ≡ hop → next_at bytes (place_of (number_of bytes key hop)) ≡ 0 × (get_or fills (node key level) 0 ≡ (get_or loads (node key level) 0 - 1) % 32 + 1)
+  end_next : (key : ℤ) (level hop : ℕ) → level ≤ 4 → 0 < get_or loads (node key level) 0 → hop_of level (get_or loads (node key level) 0) ≡ hop → next_at bytes (numbered_place (number_of bytes key hop)) ≡ 0 × (get_or fills (node key level) 0 ≡ (get_or loads (node key level) 0 - 1) % 32 + 1)
   end_next key level hop low some is =
       let small = node_small key level low in
       let tail = tails key level low some in
       ⊎_elim
       (λ (x : (get_or loads (node key level) 0 ≡ 0) × (bucket_number bytes (node key level) ≡ 0)). let z = x.0 in absurd (omega (arith, some, z)))
       (λ (x : (0 < get_or loads (node key level) 0) × (get_or fills (node key level) 0 ≡ (get_or loads (node key level) 0 - 1) % 32 + 1) × (get_or nexts (node key level) 0 ≡ 0)).
-      (subst (λ (h : ℕ). next_at bytes (place_of (number_of bytes key h)) ≡ 0) is (sym tail.onward ∙ x.2), x.1))
+      (subst (λ (h : ℕ). next_at bytes (numbered_place (number_of bytes key h)) ≡ 0) is (sym tail.onward ∙ x.2), x.1))
       (done (node key level) (omega (arith, small)))
 
   -- a path has no bucket where nothing comes
@@ -92,7 +92,7 @@ module _ (bytes loads places nexts fills : List ℕ) (ps : List Pair) (counts : 
           let b = ap (λ (x : ℕ). length (reaching (goes k) x ps)) f ∙ chain_length k ps (suc (h - 4)) in
           omega (arith, a, b, z)
 
-  holds_all : (key : ℤ) (hop : ℕ) → 0 < length (reaching (goes key) hop ps) → HoldsPairs bytes (place_of (number_of bytes key hop)) (reaching (goes key) hop ps)
+  holds_all : (key : ℤ) (hop : ℕ) → 0 < length (reaching (goes key) hop ps) → HoldsPairs bytes (numbered_place (number_of bytes key hop)) (reaching (goes key) hop ps)
   holds_all key hop some =
       let has = seen key hop some in
       let tail : length (reaching (goes key) hop ps) < 32 → (l : ℕ) × (l ≤ 4) × (0 < get_or loads (node key l) 0) × (hop_of l (get_or loads (node key l) 0) ≡ hop) × ((get_or loads (node key l) 0 - 1) % 32 + 1 ≡ length (reaching (goes key) hop ps)) = λ few. ⊎_elim
@@ -106,12 +106,12 @@ module _ (bytes loads places nexts fills : List ℕ) (ps : List Pair) (counts : 
             let t = tail (omega (arith, h, k)) in
             let fill = (end_next key t.0 hop t.1 t.2 t.3).1 in
             let last = t.4 in
-            subst (λ (g : ℕ). slot_at bytes (place_of (number_of bytes key g)) i ≡ 0) t.3 ((tails key t.0 t.1 t.2).empty i h (omega (arith, fill, last, k)));
+            subst (λ (g : ℕ). slot_at bytes (numbered_place (number_of bytes key g)) i ≡ 0) t.3 ((tails key t.0 t.1 t.2).empty i h (omega (arith, fill, last, k)));
         blank = λ i h k.
             let t = tail (omega (arith, h, k)) in
             let fill = (end_next key t.0 hop t.1 t.2 t.3).1 in
             let last = t.4 in
-            subst (λ (g : ℕ). key_at bytes (place_of (number_of bytes key g)) i ≡ pos 0) t.3 ((tails key t.0 t.1 t.2).blank i h (omega (arith, fill, last, k)));
+            subst (λ (g : ℕ). key_at bytes (numbered_place (number_of bytes key g)) i ≡ pos 0) t.3 ((tails key t.0 t.1 t.2).blank i h (omega (arith, fill, last, k)));
         last = has.last;
       }
 

@@ -2,10 +2,10 @@
 use Rattle.std.proofs.Common.{◌≡◌, ◌≢◌, ◌≤◌, ◌<◌, ◌+◌, ◌*◌, ◌-◌, ℕ, ℤ, zero, suc, List, length, get_or, refl, arith, ap, ◌∙◌, ⊎_elim}
 use Rattle.std.specs.Prelude.{min, slice_range}
 use Rattle.afl_base.specs.Fields.{u16_at}
-use Rattle.index_tree.specs.Buckets.{IsFilled}
+use Rattle.index_tree.specs.Buckets.{IsFilledBucket}
 use Rattle.index_tree.specs.Ends.{spot_behind, spot_of}
 use Rattle.index_tree.specs.Pairs.{Pair, goes, reaching}
-use Rattle.index_tree.specs.TreeFile.{HoldsPairs, IsBucket, next_number, key_at, last_at, number_of, place_of, slot_at}
+use Rattle.index_tree.specs.TreeFile.{HoldsPairs, IsBucket, next_number, key_at, last_at, number_of, numbered_place, slot_at}
 use Rattle.index_tree.proofs.Frames.{SameBytes, i32_same, part_same, u16_same}
 use Rattle.index_tree.proofs.Shared.{order}
 
@@ -32,7 +32,7 @@ holds_part file part place rest is holds = record {
   last = last_part file part place is ∙ holds.last;
 }
 
-pub filled_is : (bytes : List ℕ) (rest : List Pair) (n : ℕ) → HoldsPairs bytes 0 rest → IsFilled bytes n → n ≡ min 32 (length rest)
+pub filled_is : (bytes : List ℕ) (rest : List Pair) (n : ℕ) → HoldsPairs bytes 0 rest → IsFilledBucket bytes n → n ≡ min 32 (length rest)
 filled_is bytes rest n holds is =
     let most = is.most in
     ⊎_elim
@@ -47,8 +47,8 @@ filled_is bytes rest n holds is =
     (order n (length rest))
 
 -- a look finds how many pairs stand in a bucket
-pub looked : (file part : List ℕ) (number n : ℕ) (rest : List Pair) → number ≢ 0 → part ≡ slice_range file (place_of number) (place_of number + 195) → IsBucket file number rest → IsFilled part n → n ≡ min 32 (length rest)
-looked file part number n rest some is bucket filled = filled_is part rest n (holds_part file part (place_of number) rest is (bucket.holds some)) filled
+pub looked : (file part : List ℕ) (number n : ℕ) (rest : List Pair) → number ≢ 0 → part ≡ slice_range file (numbered_place number) (numbered_place number + 195) → IsBucket file number rest → IsFilledBucket part n → n ≡ min 32 (length rest)
+looked file part number n rest some is bucket filled = filled_is part rest n (holds_part file part (numbered_place number) rest is (bucket.holds some)) filled
 
 -- ---- the way on
 

@@ -5,28 +5,28 @@ use Rattle.afl_base.specs.Files.{Drafts, State, draft_in}
 use Rattle.padded.specs.Padded.{padded}
 use Rattle.db_model.specs.HashTree.{buckets, node}
 use Rattle.index_tree.specs.Buckets.{IsPairBytes}
-use Rattle.index_tree.specs.Loads.{Counts}
+use Rattle.index_tree.specs.Loads.{CountsPairs}
 use Rattle.index_tree.specs.Pairs.{Pair, goes, pair_keys, reaching}
 use Rattle.index_tree.specs.Places.{SlotsRise}
-use Rattle.index_tree.specs.TreeFile.{IsTree, bucket_place, number_of, place_of}
+use Rattle.index_tree.specs.TreeFile.{IsTree, bucket_place, number_of, numbered_place}
 use Rattle.index_maxheap.specs.declared.groups.Nodes.{Nodes}
 
 -- after a bucket's pairs are zeros
 abbrev pub IsBlank : List ℕ → List Pair → Type 0
 IsBlank bytes ps = (key : ℤ) (hop : ℕ) → number_of bytes key hop ≢ 0 → (x : ℕ)
     → 6 * length (reaching (goes key) hop ps) ≤ x → x < 192
-    → get_or bytes (place_of (number_of bytes key hop) + x) 0 ≡ 0
+    → get_or bytes (numbered_place (number_of bytes key hop) + x) 0 ≡ 0
 
 -- the loads, and the number of buckets, are those of the tree of this many keys
 abbrev pub AreLoads : List ℕ → (slots opened : ℕ) → Type 0
-AreLoads loads slots opened = (ps : List Pair) × (length ps ≡ slots) × Counts loads ps
+AreLoads loads slots opened = (ps : List Pair) × (length ps ≡ slots) × CountsPairs loads ps
     × (opened ≡ buckets (pair_keys ps))
 
 -- the place of the last bucket of each node that has one
 abbrev pub AreLast : List ℕ → List ℕ → List ℕ → Type 0
 AreLast loads places tree = (key : ℤ) (level : ℕ) → level ≤ 4
     → 0 < get_or loads (node key level) 0 →
-    get_or places (node key level) 0 ≡ place_of (number_of tree key (level + (get_or loads (node key level) 0 - 1) / 32))
+    get_or places (node key level) 0 ≡ numbered_place (number_of tree key (level + (get_or loads (node key level) 0 - 1) / 32))
 
 -- the draft has the tree of these pairs in front, and zeros after it
 pub record Builds (loads places : List ℕ) (opened : ℕ) (draft : List ℕ) (ps : List Pair) : Type 0 where
@@ -34,7 +34,7 @@ pub record Builds (loads places : List ℕ) (opened : ℕ) (draft : List ℕ) (p
   pub is : IsTree tree ps
   pub rises : SlotsRise ps
   pub blank : IsBlank tree ps
-  pub counts : Counts loads ps
+  pub counts : CountsPairs loads ps
   pub long : length places ≡ 341
   pub ends : AreLast loads places tree
   pub count : opened ≡ buckets (pair_keys ps)

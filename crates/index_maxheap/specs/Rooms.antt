@@ -7,7 +7,7 @@ use Rattle.afl_base.specs.Regions.{regions}
 use Rattle.index_tree.specs.Buckets.{IsFirstBucket, IsPairBytes}
 use Rattle.index_tree.specs.Pairs.{Pair}
 use Rattle.index_tree.specs.Ends.{path_end, filled_of, spot_of}
-use Rattle.index_tree.specs.TreeFile.{NamesOnly, number_of, place_of}
+use Rattle.index_tree.specs.TreeFile.{NamesOnly, number_of, numbered_place}
 use Rattle.index_tree.specs.Trees.{IsTreeOf}
 use Rattle.index_maxheap.specs.declared.rooms.End.{End}
 use Rattle.index_maxheap.specs.declared.rooms.End.TheVariants as end
@@ -20,18 +20,18 @@ end_by spot place (suc pairs) = end.Pair (place + 6 * suc pairs)
 
 -- where the next pair of the bucket at a hop of a key's path goes
 abbrev pub end_at : List ℕ → ℤ → ℕ → End
-end_at bytes key hop = end_by (spot_of bytes key hop) (place_of (number_of bytes key hop)) (filled_of bytes (number_of bytes key hop))
+end_at bytes key hop = end_by (spot_of bytes key hop) (numbered_place (number_of bytes key hop)) (filled_of bytes (number_of bytes key hop))
 
 -- a pair takes an overwrite of each region that its 6 bytes touch; a bucket takes 195 bytes at the end of the file,
 -- and an overwrite of each region that the 2 bytes of its number touch
-abbrev pub room_for : End → Room
-room_for (end.Pair at) = record { overwrites = regions at 6; bytes = 0; end = end.Pair at }
-room_for (end.Bucket at) = record { overwrites = regions at 2; bytes = 195; end = end.Bucket at }
-room_for end.Nowhere = record { overwrites = 0; bytes = 0; end = end.Nowhere }
+abbrev pub room_at : End → Room
+room_at (end.Pair at) = record { overwrites = regions at 6; bytes = 0; end = end.Pair at }
+room_at (end.Bucket at) = record { overwrites = regions at 2; bytes = 195; end = end.Bucket at }
+room_at end.Nowhere = record { overwrites = 0; bytes = 0; end = end.Nowhere }
 
 -- what an insert of a key into the tree of a file needs
 unfoldable pub room_of : List ℕ → ℤ → Room
-room_of bytes key = room_for (end_at bytes key (path_end bytes key))
+room_of bytes key = room_at (end_at bytes key (path_end bytes key))
 
 -- ---- what holds also where bytes are not told
 
@@ -43,7 +43,7 @@ IsWithin end.Nowhere size = ⊤
 
 -- an insert may be made with this room in a file of this many bytes
 pub record IsRoomIn (room : Room) (size : ℕ) : Type 0 where
-  pub whole : room ≡ room_for room.end
+  pub whole : room ≡ room_at room.end
   pub within : IsWithin room.end size
 
 -- the file has what the insert needs, as after `prepare` for the two numbers

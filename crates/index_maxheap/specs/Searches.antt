@@ -2,7 +2,7 @@
 use Rattle.std.specs.Prelude.{ℕ, ℤ, ⊤, ◌≡◌, ◌≢◌, ◌+◌, ◌-◌, ◌*◌, ◌/◌, ◌<◌, ◌≤◌, min, List, [], ◌∷◌, length, drop, filter, Option, Some, None}
 use Rattle.index_tree.specs.Pairs.{Pair}
 use Rattle.index_tree.specs.Places.{IsPlaceAt, is_wanted}
-use Rattle.index_tree.specs.TreeFile.{bucket_place, key_at, number_of, place_of, slot_at}
+use Rattle.index_tree.specs.TreeFile.{bucket_place, key_at, number_of, numbered_place, slot_at}
 use Rattle.index_tree.specs.Trees.{numbered}
 use Rattle.index_maxheap.specs.declared.places.Place.{Place}
 use Rattle.index_maxheap.specs.declared.searching.Scanned.{Scanned}
@@ -27,8 +27,8 @@ IsPlaceOf bytes keys key from (Some place) = (hop : ℕ) × TellsHop place.hop h
 
 -- the pair before a place has the key, and the slot before one
 abbrev pub IsBehind : List ℕ → ℤ → ℕ → Place → Type 0
-IsBehind bytes key from place = (key_at bytes (place_of place.bucket) (place.pair - 1) ≡ key)
-    × (slot_at bytes (place_of place.bucket) (place.pair - 1) ≡ from)
+IsBehind bytes key from place = (key_at bytes (numbered_place place.bucket) (place.pair - 1) ≡ key)
+    × (slot_at bytes (numbered_place place.bucket) (place.pair - 1) ≡ from)
 
 -- a place that may stand after a pair of a file of this many bytes, of a search from a slot on
 pub record MayStand (place : Place) (from size : ℕ) : Type 0 where
@@ -83,12 +83,12 @@ pub record IsStart (bytes : List ℕ) (keys : List ℤ) (key : ℤ) (from : ℕ)
   pub some : place.bucket ≢ 0 → IsPlaceOf bytes keys key from (Some place)
 
 -- what a look into one bucket comes to
-abbrev pub Steps : Step → List ℕ → List ℤ → ℤ → ℕ → Type 0
-Steps (step.Found slot place) bytes keys key from = (rest : List Pair)
+abbrev pub LooksInto : Step → List ℕ → List ℤ → ℤ → ℕ → Type 0
+LooksInto (step.Found slot place) bytes keys key from = (rest : List Pair)
     × (filter (is_wanted key from) (numbered 0 keys) ≡ record { key = key; slot = slot } ∷ rest)
     × IsPlaceOf bytes keys key (slot + 1) (Some place)
-Steps step.End bytes keys key from = filter (is_wanted key from) (numbered 0 keys) ≡ []
-Steps (step.Onward place) bytes keys key from = IsPlaceOf bytes keys key from (Some place)
+LooksInto step.End bytes keys key from = filter (is_wanted key from) (numbered 0 keys) ≡ []
+LooksInto (step.Onward place) bytes keys key from = IsPlaceOf bytes keys key from (Some place)
 
 -- a place that may be read from
 abbrev pub IsSafe : Place → Type 0

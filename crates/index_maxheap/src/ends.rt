@@ -11,7 +11,7 @@ ghost use Rattle.index_tree.specs.TreeFile.{IsBucket, bucket_place};
 ghost use Rattle.index_tree.specs.Trees.{IsTreeOf, numbered};
 ghost use Rattle.index_maxheap.specs.Rooms.{IsWithin};
 ghost use Rattle.index_maxheap.specs.Searches.{walk_left};
-ghost use Rattle.index_maxheap.specs.Walks.{Finds, FindsInBucket, IsBeside, IsFullLowest, IsInChain, IsSafeLook, IsUnmet, LeadsOn};
+ghost use Rattle.index_maxheap.specs.Walks.{EndsPath, FindsInBucket, IsBeside, IsFullLowest, IsInChain, IsSafeLook, IsUnmet, LeadsOn};
 
 use crate::path::node;
 use crate::rooms::End;
@@ -142,7 +142,7 @@ fn chain_end<V: Files>(files: &mut V, index: FileId, start: u16) -> Result<End, 
     requires small { size_at (V.state files.old).files index ≤ 268000 }
     ensures finds { let bytes = bytes_at (V.state files.old).files index in
         IsTrue (V.state files.old).tells → (keys : List ℤ) (key : ℤ) (hop : ℕ) → IsTreeOf bytes keys
-        → IsInChain bytes key hop start → IfOk result (λ end. Finds end bytes (numbered 0 keys) key) }
+        → IsInChain bytes key hop start → IfOk result (λ end. EndsPath end bytes (numbered 0 keys) key) }
     ensures within { IfOk result (λ end. IsWithin end (size_at (V.state files.old).files index)) }
     ensures reads { let bytes = bytes_at (V.state files.old).files index in
         IsTrue (V.state files.old).tells → (keys : List ℤ) (key : ℤ) (hop : ℕ) → IsTreeOf bytes keys
@@ -190,7 +190,7 @@ fn end_behind<V: Files>(
     ensures finds { let bytes = bytes_at (V.state files.old).files index in
         IsTrue (V.state files.old).tells → (keys : List ℤ) → IsTreeOf bytes keys
         → IsFullLowest bytes (numbered 0 keys) key.now number next → IsUnmet bytes key.now 5 last
-        → IfOk result (λ end. Finds end bytes (numbered 0 keys) key.now) }
+        → IfOk result (λ end. EndsPath end bytes (numbered 0 keys) key.now) }
     ensures within { IfOk result (λ end. IsWithin end (size_at (V.state files.old).files index)) }
     ensures reads { let bytes = bytes_at (V.state files.old).files index in
         IsTrue (V.state files.old).tells → (keys : List ℤ) → IsTreeOf bytes keys
@@ -214,7 +214,7 @@ pub fn find_end<V: Files>(files: &mut V, index: FileId, key: &i32) -> Result<End
     requires small { size_at (V.state files.old).files index ≤ 268000 }
     ensures finds { IsTrue (V.state files.old).tells → (keys : List ℤ)
         → IsTreeOf (bytes_at (V.state files.old).files index) keys
-        → IfOk result (λ end. Finds end (bytes_at (V.state files.old).files index) (numbered 0 keys) key.now) }
+        → IfOk result (λ end. EndsPath end (bytes_at (V.state files.old).files index) (numbered 0 keys) key.now) }
     ensures within { IfOk result (λ end. IsWithin end (size_at (V.state files.old).files index)) }
     ensures reads { IsTrue (V.state files.old).tells → (keys : List ℤ)
         → IsTreeOf (bytes_at (V.state files.old).files index) keys

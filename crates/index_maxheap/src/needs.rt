@@ -7,7 +7,7 @@ ghost use Rattle.afl_base.specs.Keeping.{OnlyReads};
 ghost use Rattle.afl_base.specs.Files.{IsLive, bytes_at, size_at};
 ghost use Rattle.db_model.specs.Cost.{keys_beside};
 ghost use Rattle.index_tree.specs.Trees.{IsTreeOf};
-ghost use Rattle.index_maxheap.specs.Rooms.{IsRoomIn, room_for, room_of};
+ghost use Rattle.index_maxheap.specs.Rooms.{IsRoomIn, room_at, room_of};
 ghost use Rattle.index_maxheap.specs.Searches.{walk_left};
 
 use crate::ends::find_end;
@@ -17,7 +17,7 @@ use afl_base::{Failed, FileId, Files, regions};
 
 // What an insert at an end of a path needs.
 fn room_for(end: End) -> Room
-    ensures room { result ≡ room_for end }
+    ensures room { result ≡ room_at end }
     ensures end { result.end ≡ end }
     ensures few { (result.overwrites ≤ 2) × (result.bytes ≤ 195) }
     ensures none { result.overwrites ≡ 0 → result.bytes ≡ 0 }

@@ -11,7 +11,7 @@ ghost use Rattle.afl_base.specs.Keys.{HasNone, IsFirstOf};
 ghost use Rattle.index_tree.specs.Pairs.{Pair};
 ghost use Rattle.index_tree.specs.TreeFile.{HoldsPairs, bucket_place, key_at, number_of, slot_at};
 ghost use Rattle.index_tree.specs.Trees.{IsTreeOf};
-ghost use Rattle.index_maxheap.specs.Searches.{IsPlaceOf, IsSafe, IsSafeStep, IsShort, IsStart, Scans, Steps, TellsHop, hop_after, number_reads, walk_left};
+ghost use Rattle.index_maxheap.specs.Searches.{IsPlaceOf, IsSafe, IsSafeStep, IsShort, IsStart, Scans, LooksInto, TellsHop, hop_after, number_reads, walk_left};
 
 use crate::hints::hinted;
 use crate::path::node;
@@ -124,7 +124,7 @@ fn look_in<V: Files>(
     ensures steps { IsTrue (V.state files.old).tells → (keys : List ℤ)
         → IsTreeOf (bytes_at (V.state files.old).files index) keys
         → IsPlaceOf (bytes_at (V.state files.old).files index) keys key.now from (Some place)
-        → IfOk result (λ s. Steps s (bytes_at (V.state files.old).files index) keys key.now from) }
+        → IfOk result (λ s. LooksInto s (bytes_at (V.state files.old).files index) keys key.now from) }
     ensures safe { IfOk result (λ s. IsSafeStep s place.hop from) }
     ensures cost { let before = V.reads files.old in IfOk result (λ s.
         V.reads files.new + number_reads place.hop ≤ before + 9 + number_reads (hop_after s place.hop)) }

@@ -7,7 +7,7 @@ ghost use Rattle.afl_base.specs.Keeping.{OnlyReads};
 ghost use Rattle.afl_base.specs.Fields.{u16_at};
 ghost use Rattle.afl_base.specs.Files.{IsLive, bytes_at, size_at};
 ghost use Rattle.afl_base.specs.Regions.{regions};
-ghost use Rattle.index_tree.specs.Buckets.{IsFilled};
+ghost use Rattle.index_tree.specs.Buckets.{IsFilledBucket};
 ghost use Rattle.index_tree.specs.TreeFile.{bucket_place};
 
 use afl_base::{Failed, FileId, Files, get_u16};
@@ -66,7 +66,7 @@ pub fn read_bucket<V: Files>(
 
 /// How many pairs stand in a bucket before the first that is empty.
 pub fn filled(bytes: &[u8; BUCKET_SIZE]) -> u8
-    ensures { IsFilled bytes.now result }
+    ensures { IsFilledBucket bytes.now result }
 {
     for pair in 0..32u8 {
         if get_u16(bytes, 6 * usize::from(pair) + 4) == 0 {

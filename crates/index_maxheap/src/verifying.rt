@@ -12,7 +12,7 @@ ghost use Rattle.index_tree.specs.Pairs.{pairs_of};
 ghost use Rattle.afl_base.specs.Keys.{first_keys};
 ghost use Rattle.index_tree.specs.Trees.{IsTreeOf};
 ghost use Rattle.index_tree.specs.TreeFile.{bucket_place, key_at, slot_at};
-ghost use Rattle.index_maxheap.specs.Verify.{AreHeads, Goes, HasSeen, IsDone, Opens};
+ghost use Rattle.index_maxheap.specs.Verify.{AreHeads, Goes, HasSeen, IsNodeDone, Opens};
 
 use crate::loads::level_with_room;
 use crate::path::node;
@@ -239,8 +239,8 @@ fn read_heads<V: Files>(
 // Whether a node has no number, or a last bucket with no pair after those that were seen.
 fn is_done(heads: &[u8; HEAD_SIZE], node: u16, load: u16, next: u16, fill: u8) -> bool
     requires { node ≤ 340 }
-    ensures yes { result ≡ true → IsDone heads.now node load next fill }
-    ensures no_ { result ≡ false → IsDone heads.now node load next fill → ⊥ }
+    ensures yes { result ≡ true → IsNodeDone heads.now node load next fill }
+    ensures no_ { result ≡ false → IsNodeDone heads.now node load next fill → ⊥ }
 {
     if load == 0 {
         return get_u16(heads, 2 * usize::from(node)) == 0;
@@ -254,9 +254,9 @@ fn is_done(heads: &[u8; HEAD_SIZE], node: u16, load: u16, next: u16, fill: u8) -
 // Whether all nodes are.
 fn are_done(heads: &[u8; HEAD_SIZE], seen: &Seen) -> bool
     ensures yes { result ≡ true → (n : ℕ) → n < 341
-        → IsDone heads.now n (get_or seen.now.loads n 0) (get_or seen.now.nexts n 0) (get_or seen.now.fills n 0) }
+        → IsNodeDone heads.now n (get_or seen.now.loads n 0) (get_or seen.now.nexts n 0) (get_or seen.now.fills n 0) }
     ensures no_ { result ≡ false → (n : ℕ) × (n < 341)
-        × (IsDone heads.now n (get_or seen.now.loads n 0) (get_or seen.now.nexts n 0) (get_or seen.now.fills n 0)
+        × (IsNodeDone heads.now n (get_or seen.now.loads n 0) (get_or seen.now.nexts n 0) (get_or seen.now.fills n 0)
         → ⊥) }
 {
     for node in 0..341u16 {

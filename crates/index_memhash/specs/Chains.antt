@@ -4,8 +4,8 @@ use Rattle.std.specs.Int.{w32, cast_unsigned}
 use Rattle.afl_base.specs.Keys.{HasNone, IsFirstOf, key_in}
 
 -- what a search for a key answers: its first slot from one on, and none where no slot has it
-abbrev pub Finds : Option ℕ → ℤ → List ℤ → ℕ → Type 0
-Finds found key keys from = MatchOption found (HasNone key keys from) (IsFirstOf key keys from)
+abbrev pub FindsKey : Option ℕ → ℤ → List ℤ → ℕ → Type 0
+FindsKey found key keys from = MatchOption found (HasNone key keys from) (IsFirstOf key keys from)
 
 -- the hash of a key, below 512: the upper nine bits of the key times 2,654,435,769, all in 32 bits without a sign
 unfoldable pub hash : ℤ → ℕ

@@ -1,5 +1,5 @@
 ghost use Rattle.std.specs.Prelude.{◌≡◌, ◌+◌, ◌*◌, ◌-◌, ◌<◌, ◌≤◌, ◌≢◌, ℕ, get_or, take, length, true, false, nat_le, ◌&&◌};
-ghost use Rattle.index_memhash.specs.Chains.{Finds, IsChained, chain_at, end_link, entry_held, hash};
+ghost use Rattle.index_memhash.specs.Chains.{FindsKey, IsChained, chain_at, end_link, entry_held, hash};
 ghost use Rattle.afl_base.specs.Keys.{is_key_at, key_in};
 
 use afl_base::SlotNo;
@@ -55,7 +55,7 @@ pub(crate) fn find(
 ) -> Option<SlotNo>
     requires few { len ≤ 2048 }
     requires chained { IsChained (take len keys.now) links.now last.now }
-    ensures { Finds result key.now (take len keys.now) from }
+    ensures { FindsKey result key.now (take len keys.now) from }
 {
     let mut entry = led_to(links, link_before(keys, len, key, from));
     'chain: while entry < len {

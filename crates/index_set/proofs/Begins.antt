@@ -27,7 +27,7 @@ use Rattle.index_set.specs.declared.info.TableId.{TableId}
 use Rattle.index_set.specs.Complete.{AreIndexesOf, AreReadable, HasKeys, HasTree, IsComplete, IsInfoOf, IsReadable, key_at_place}
 use Rattle.index_set.specs.Plans.{kinds, slots_passed}
 use Rattle.index_set.specs.Tables.{Tables}
-use Rattle.index_set.specs.Walks.{Begins, Fits, IsChosen, KnowsRows, Waits, ahead, cost_ahead, reads_by, slots_searched, search_takes}
+use Rattle.index_set.specs.Walks.{BeginsWalk, Fits, IsChosen, KnowsRows, Waits, ahead, cost_ahead, reads_by, slots_searched, search_takes}
 use Rattle.index_set.proofs.Costs.{all_counted, few_counted}
 use Rattle.index_set.proofs.Fronts.{keys_front, level_front}
 use Rattle.index_set.proofs.Lists.{here_of, some_of}
@@ -98,7 +98,7 @@ module _ (infos : List IndexInfo) (ranges : List Range) (slots : ℕ) where
       cost_by Scan all (cost_ahead c all) is (omega (arith, most, cost, few))
 
   pub nothing_begins : (c : Candidates) → c.search ≡ by.Nothing → c.place ≡ None → c.from ≡ 0 → c.slots ≡ slots → plan (kinds infos) ranges ≡ Nothing → (state : State) (tables : Tables) (all : List Row) → slots ≤ length all
-      → Begins c slots infos ranges state tables all
+      → BeginsWalk c slots infos ranges state tables all
   nothing_begins c searched rests from count is state tables all few =
       let passed = begun_ahead c by.Nothing Nothing searched from count is (λ row. refl) all in
       record {
@@ -108,7 +108,7 @@ module _ (infos : List IndexInfo) (ranges : List Range) (slots : ℕ) where
       }
 
   pub scan_begins : (c : Candidates) → c.search ≡ by.Scan → c.place ≡ None → c.from ≡ 0 → c.slots ≡ slots → plan (kinds infos) ranges ≡ Scan → (state : State) (tables : Tables) (all : List Row) → slots ≤ length all
-      → Begins c slots infos ranges state tables all
+      → BeginsWalk c slots infos ranges state tables all
   scan_begins c searched rests from count is state tables all few =
       let passed = begun_ahead c by.Scan Scan searched from count is (λ row. refl) all in
       record {
@@ -157,7 +157,7 @@ module _ (infos : List IndexInfo) (ranges : List Range) (slots : ℕ) where
         cost_by (ByTree nth key) all (cost_ahead c all) is (omega (arith, most, cost, beside, equal))
 
     pub tree_begins : (c : Candidates) (file : ℕ) (key : ℤ) → c.search ≡ by.Tree y.attribute file key → c.place ≡ None → c.from ≡ 0 → c.slots ≡ slots → plan (kinds infos) ranges ≡ ByTree nth key → y.access ≡ Tree file
-        → (state : State) (tables : Tables) (all : List Row) → slots ≤ length all → AreIndexesOf state tables all infos → Begins c slots infos ranges state tables all
+        → (state : State) (tables : Tables) (all : List Row) → slots ≤ length all → AreIndexesOf state tables all infos → BeginsWalk c slots infos ranges state tables all
     tree_begins c file key searched rests from count is found state tables all few indexes =
         let s : Search = by.Tree y.attribute file key in
         let passed = begun_ahead c s (ByTree nth key) searched from count is (tree_same file key) all in
@@ -191,7 +191,7 @@ module _ (infos : List IndexInfo) (ranges : List Range) (slots : ℕ) where
         cost_by (ByTable nth key) all (cost_ahead c all) is (omega (arith, most, cost, equal))
 
     pub table_begins : (c : Candidates) (number : TableId) (key : ℤ) → c.search ≡ by.Table y.attribute number key → c.place ≡ None → c.from ≡ 0 → c.slots ≡ slots → plan (kinds infos) ranges ≡ ByTable nth key → y.access ≡ InTable number
-        → (state : State) (tables : Tables) (all : List Row) → slots ≤ length all → AreIndexesOf state tables all infos → Begins c slots infos ranges state tables all
+        → (state : State) (tables : Tables) (all : List Row) → slots ≤ length all → AreIndexesOf state tables all infos → BeginsWalk c slots infos ranges state tables all
     table_begins c number key searched rests from count is found state tables all few indexes =
         let s : Search = by.Table y.attribute number key in
         let passed = begun_ahead c s (ByTable nth key) searched from count is (table_same number key) all in
@@ -262,7 +262,7 @@ module _ (infos : List IndexInfo) (ranges : List Range) (slots : ℕ) where
           let digits = bits_grow slots (length all) few in
           cost_by (ByOrder nth) all (cost_ahead c all) is (omega (arith, most, cost, same, digits))
 
-      pub order_begins : Begins c slots infos ranges state tables all
+      pub order_begins : BeginsWalk c slots infos ranges state tables all
       order_begins = record { ahead = order_ahead; fits = order_fits; cost = order_cost_met }
 
     -- the keys of the first rows do not fall

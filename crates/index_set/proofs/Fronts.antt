@@ -1,5 +1,5 @@
 -- The keys of the first rows.
-use Rattle.std.proofs.Common.{◌≡◌, ◌≤◌, ◌<◌, ℕ, ℤ, pos, zero, suc, List, [], ◌∷◌, length, get_or, take, None, refl, arith, ap, ◌∙◌, sym}
+use Rattle.std.proofs.Common.{◌≡◌, ◌≤◌, ◌<◌, ℕ, ℤ, pos, zero, suc, List, [], ◌∷◌, length, get_or, take, None, refl, arith, ◌∙◌, sym}
 use Rattle.std.specs.Prelude.{int_lt}
 use Rattle.std.proofs.lemmas.List.{ext_get_or, get_or-take, length-take-le, take_all}
 use Rattle.std.proofs.lemmas.List.FromFn.{get_or-map-range_with_len, length-map-range_with_len}
@@ -8,6 +8,7 @@ use Rattle.afl_base.specs.KeyColumn.{key_of}
 use Rattle.db_model.specs.Row.{Row, no_row}
 use Rattle.db_model.specs.Step.{first_fall, keys}
 use Rattle.index_inline.specs.Keys.{keys_of}
+use Rattle.index_set.proofs.Inserted.{keys_count as keys_length}
 use Rattle.index_set.specs.declared.info.IndexInfo.{IndexInfo}
 use Rattle.index_set.specs.Complete.{HasKeys, key_at_place}
 use Rattle.index_inline.proofs.Falls.{not_first, none_behind}
@@ -16,10 +17,6 @@ key_at_slot : (attribute : ℕ) (all : List Row) (slot : ℕ) → get_or (keys a
 key_at_slot attribute [] slot = refl
 key_at_slot attribute (row ∷ all) zero = refl
 key_at_slot attribute (row ∷ all) (suc slot) = key_at_slot attribute all slot
-
-keys_length : (attribute : ℕ) (all : List Row) → length (keys attribute all) ≡ length all
-keys_length attribute [] = refl
-keys_length attribute (row ∷ all) = ap suc (keys_length attribute all)
 
 -- a column that has the keys of rows has those of the first of them
 pub keys_front : (state : State) (y : IndexInfo) (all : List Row) (slots : ℕ) → slots ≤ length all → HasKeys state all y → keys_of state y.column slots ≡ take slots (keys y.attribute all)

@@ -13,7 +13,7 @@ use Rattle.db_model.specs.Step.{key_of}
 use Rattle.index_maxheap.specs.declared.rooms.End.{End}
 use Rattle.index_maxheap.specs.declared.rooms.End.TheVariants as end
 use Rattle.index_maxheap.specs.declared.rooms.Room.{Room}
-use Rattle.index_maxheap.specs.Rooms.{HasRoomFor, IsRoomIn, OnlyIndexChanges, room_for as room_at_end, room_of}
+use Rattle.index_maxheap.specs.Rooms.{HasRoomFor, IsRoomIn, OnlyIndexChanges, room_at as room_at_end, room_of}
 use Rattle.index_set.specs.declared.info.Access.{Access}
 use Rattle.index_set.specs.declared.info.Access.TheVariants.{Order, Tree, Table as InTable}
 use Rattle.index_set.specs.declared.info.IndexInfo.{IndexInfo}

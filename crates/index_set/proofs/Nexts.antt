@@ -9,6 +9,7 @@ use Rattle.db_model.specs.declared.schemas.Range.{Range}
 use Rattle.db_model.specs.Cost.{keys_beside}
 use Rattle.db_model.specs.Row.{Row, no_row}
 use Rattle.db_model.specs.Step.{keys}
+use Rattle.index_set.proofs.Inserted.{keys_count as length_keys}
 use Rattle.index_set.specs.declared.candidates.Candidates.{Candidates}
 use Rattle.index_set.specs.declared.candidates.Search.{Search}
 use Rattle.index_set.specs.declared.candidates.Search.TheVariants as by
@@ -17,7 +18,7 @@ use Rattle.index_set.specs.Complete.{key_at_place}
 use Rattle.index_set.specs.Tables.{Tables, entries}
 use Rattle.index_maxheap.specs.Searches.{walk_left}
 use Rattle.afl_base.specs.Keys.{IsFirstOf}
-use Rattle.index_set.specs.Walks.{Advances, Finds, Fits, LacksKey, HasIndex, HasPlace, IsMoved, IsMovedBy, KnowsRows, Waits, ahead, reads_ahead, reads_by, slots_searched, search_takes}
+use Rattle.index_set.specs.Walks.{Advances, FindsAhead, Fits, LacksKey, HasIndex, HasPlace, IsMoved, IsMovedBy, KnowsRows, Waits, ahead, reads_ahead, reads_by, slots_searched, search_takes}
 use Rattle.index_set.proofs.Seeks.{key_of_slot}
 use Rattle.index_set.proofs.Slots.{between_first, between_none}
 
@@ -25,10 +26,6 @@ over_or_some : (from slots : ℕ) → (slots ≤ from) ⊎ (from < slots)
 over_or_some from zero = inl (omega arith)
 over_or_some zero (suc slots) = inr (omega arith)
 over_or_some (suc from) (suc slots) = ⊎_elim (λ h. inl (omega (arith, h))) (λ h. inr (omega (arith, h))) (over_or_some from slots)
-
-length_keys : (attribute : ℕ) (rows : List Row) → length (keys attribute rows) ≡ length rows
-length_keys attribute [] = refl
-length_keys attribute (row ∷ rows) = ap suc (length_keys attribute rows)
 
 -- ---- what is ahead
 
@@ -51,7 +48,7 @@ nothing_ahead c rows e = ahead_none c rows (λ i a b. ap (λ (s : Search). searc
 
 pub order_next : (old new : Candidates) (state : State) (tables : Tables) (rows : List Row) (attribute : ℕ) (range : Range) (r : Option ℕ) → old.search ≡ by.Order attribute range → Fits old state tables rows
     → MatchOption r (old.end ≤ old.from) (λ slot. (slot ≡ old.from) × (slot < old.end)) → IsMoved r old new → MatchOption r (new.end ≡ old.end) (λ slot. new.end ≡ old.end)
-    → Finds r old new state tables rows
+    → FindsAhead r old new state tables rows
 order_next old new state tables rows attribute range None is fits found moved end =
     let K : Search → Type 0 = λ s. KnowsRows s rows old.from old.end old.slots in
     let knows = subst K is fits.waits.knows in
@@ -109,7 +106,7 @@ module _ (old new : Candidates) (state : State) (tables : Tables) (rows : List R
 
   tree_option : (r : Option ℕ) → (HasPlace state file key (keys attribute rows) old → old.slots ≤ length (keys attribute rows)
       → MatchOption r (LacksKey key (keys attribute rows) old.from old.slots) (λ slot. IsFirstOf key (keys attribute rows) old.from slot × HasPlace state file key (keys attribute rows) new))
-      → IsMovedBy r old new → Finds r old new state tables rows
+      → IsMovedBy r old new → FindsAhead r old new state tables rows
   tree_option None found moved = ⊎_elim (λ none. no_slots old rows none) (λ some. lacks_ahead old new rows attribute key tests (found (placed some) enough)) (over_or_some old.from old.slots)
   tree_option (Some slot) found moved =
       let order = moved.4 in
@@ -130,12 +127,12 @@ module _ (old new : Candidates) (state : State) (tables : Tables) (rows : List R
 
   pub tree_result : (r : Result (Option ℕ) Failed) → IfOk r (λ found. (ks : List ℤ) → HasPlace state file key ks old → old.slots ≤ length ks
       → MatchOption found (LacksKey key ks old.from old.slots) (λ slot. IsFirstOf key ks old.from slot × HasPlace state file key ks new))
-      → IfOk r (λ found. IsMovedBy found old new) → IfOk r (λ found. Finds found old new state tables rows)
+      → IfOk r (λ found. IsMovedBy found old new) → IfOk r (λ found. FindsAhead found old new state tables rows)
   tree_result (Ok found) h moved = tree_option found (h (keys attribute rows)) moved
   tree_result (Err e) h moved = tt
 
   spent : (before after : ℕ) (found : Option ℕ) → IsMovedBy found old new
-      → Finds found old new state tables rows
+      → FindsAhead found old new state tables rows
       → MatchOption found (after + walk_of new ≤ before + walk_of old) (λ _. after + walk_of new ≤ before + walk_of old + 9)
       → after + reads_ahead new rows ≤ before + reads_ahead old rows
   spent before after None moved next h =
@@ -151,7 +148,7 @@ module _ (old new : Candidates) (state : State) (tables : Tables) (rows : List R
       omega (arith, a, b, n, h)
 
   pub tree_reads : (before after : ℕ) (r : Result (Option ℕ) Failed) → (old.slots ≤ old.from → after ≡ before) → (old.slots ≤ old.from → new ≡ old) → IfOk r (λ found. IsMovedBy found old new)
-      → IfOk r (λ found. Finds found old new state tables rows)
+      → IfOk r (λ found. FindsAhead found old new state tables rows)
       → (HasPlace state file key (keys attribute rows) old → old.slots ≤ length (keys attribute rows)
       → IfOk r (λ found. MatchOption found (after + walk_of new ≤ before + walk_of old) (λ _. after + walk_of new ≤ before + walk_of old + 9)))
       → OnOk r (after + reads_ahead new rows ≤ before + reads_ahead old rows)
@@ -175,7 +172,7 @@ module _ (old new : Candidates) (state : State) (tables : Tables) (rows : List R
   reached e = let few = fits.waits.few in let n = length_keys attribute rows in let m : length (entries tables number) ≡ length (keys attribute rows) = ap (λ (xs : List ℤ). length xs) e in omega (arith, few, n, m)
 
   pub table_next : (r : Option ℕ) → (old.slots ≤ length (entries tables number) → MatchOption r (LacksKey key (entries tables number) old.from old.slots) (λ slot. IsFirstOf key (entries tables number) old.from slot))
-      → IsMovedBy r old new → Finds r old new state tables rows
+      → IsMovedBy r old new → FindsAhead r old new state tables rows
   table_next None found moved =
       ⊎_elim (λ none. no_slots old rows none)
       (λ some. let e = entered some in let P : List ℤ → Type 0 = λ ks. LacksKey key ks old.from old.slots in lacks_ahead old new rows attribute key trials (subst P e (found (reached e))))
@@ -198,7 +195,7 @@ module _ (old new : Candidates) (state : State) (tables : Tables) (attribute fil
   pub tree_all : (r : Result (Option ℕ) Failed) → IfOk r (λ found. (ks : List ℤ) → HasPlace state file key ks old → old.slots ≤ length ks
       → MatchOption found (LacksKey key ks old.from old.slots) (λ slot. IsFirstOf key ks old.from slot × HasPlace state file key ks new))
       → IfOk r (λ found. IsMovedBy found old new)
-      → IfOk r (λ found. (rows : List Row) → Fits old state tables rows → Finds found old new state tables rows)
+      → IfOk r (λ found. (rows : List Row) → Fits old state tables rows → FindsAhead found old new state tables rows)
   tree_all (Ok found) h moved = λ rows fits. tree_result old new state tables rows attribute file key is fits (Ok found) h moved
   tree_all (Err e) h moved = tt
 

@@ -90,9 +90,9 @@ IsChosen (by.Table attribute number key) infos = SomeOf (λ info. (info.attribut
 IsChosen _ infos = ⊤
 
 -- the place and the key of a tree that is walked
-abbrev pub walk_of : Search → Option (ℕ × ℤ)
-walk_of (by.Tree attribute file key) = Some (attribute, key)
-walk_of _ = None
+abbrev pub walk_of_search : Search → Option (ℕ × ℤ)
+walk_of_search (by.Tree attribute file key) = Some (attribute, key)
+walk_of_search _ = None
 
 -- ---- the pages that are read until no slot is left: a tree's walk along its path, and each pair's bucket again
 
@@ -114,7 +114,7 @@ cost_ahead c all = 6 * length (ahead c all) + reads_ahead c all
 -- ---- where they begin
 
 -- they have ahead the slots below a number that the plan of some ranges passes, and the plan's cost is enough
-pub record Begins (c : Candidates) (slots : ℕ) (infos : List IndexInfo) (ranges : List Range) (state : State) (tables : Tables) (all : List Row) : Type 0 where
+pub record BeginsWalk (c : Candidates) (slots : ℕ) (infos : List IndexInfo) (ranges : List Range) (state : State) (tables : Tables) (all : List Row) : Type 0 where
   pub ahead : ahead c all ≡ slots_passed (kinds infos) ranges slots all
   pub fits : Fits c state tables all
   pub cost : begin_cost slots (plan (kinds infos) ranges) + cost_ahead c all ≤ chosen_cost (kinds infos) ranges all
@@ -138,17 +138,17 @@ pub record IsEnded (old new : Candidates) : Type 0 where
   pub end : new.end ≡ old.slots
 
 -- the slot that was found is the first of those that were ahead
-abbrev pub IsFirst : Option ℕ → Candidates → Candidates → List Row → Type 0
-IsFirst found old new all = MatchOption found (ahead old all ≡ []) (λ slot. ahead old all ≡ slot ∷ ahead new all)
+abbrev pub IsFirstAhead : Option ℕ → Candidates → Candidates → List Row → Type 0
+IsFirstAhead found old new all = MatchOption found (ahead old all ≡ []) (λ slot. ahead old all ≡ slot ∷ ahead new all)
 
 -- and they stand after it
-abbrev pub Finds : Option ℕ → Candidates → Candidates → State → Tables → List Row → Type 0
-Finds found old new state tables all =
+abbrev pub FindsAhead : Option ℕ → Candidates → Candidates → State → Tables → List Row → Type 0
+FindsAhead found old new state tables all =
     MatchOption found (ahead old all ≡ []) (λ slot. (ahead old all ≡ slot ∷ ahead new all) × Fits new state tables all)
 
 -- over these rows, a step that began and ended at this many reads: what is ahead pays for what was read
 pub record Steps (found : Option ℕ) (old new : Candidates) (state : State) (tables : Tables) (all : List Row) (before after : ℕ) : Type 0 where
-  pub first : IsFirst found old new all
+  pub first : IsFirstAhead found old new all
   pub fits : Fits new state tables all
   pub reads : after + reads_ahead new all ≤ before + reads_ahead old all
 

@@ -8,7 +8,7 @@ ghost use Rattle.std.specs.List.{range_with_len};
 ghost use Rattle.afl_base.specs.KeyColumn.{HasField, IsWidth, key_of};
 ghost use Rattle.index_set.specs.declared.info.TableId.{TableId as AnyTable};
 ghost use Rattle.index_set.specs.Tables.{entries};
-ghost use Rattle.index_memhash.specs.Chains.{Finds};
+ghost use Rattle.index_memhash.specs.Chains.{FindsKey};
 
 use crate::info::TableId;
 use afl_base::{Failed, Files, KeyColumn, SlotNo};
@@ -89,7 +89,7 @@ impl HashTables {
 
     // The first slot of the key, from one on.
     pub(crate) fn next(&self, table: TableId, key: &i32, from: u16) -> Option<SlotNo>
-        ensures { Finds result key.now (entries self.now table) from }
+        ensures { FindsKey result key.now (entries self.now table) from }
     {
         let place = HashPlace { entry: from };
         let (slot, _) = match table {

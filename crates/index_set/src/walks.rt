@@ -14,7 +14,7 @@ ghost use Rattle.index_set.specs.Plans.{kinds, slots_passed};
 ghost use Rattle.index_set.specs.Tables.{Tables, entries};
 ghost use Rattle.index_maxheap.specs.Searches.{walk_left};
 ghost use Rattle.afl_base.specs.Keys.{IsFirstOf};
-ghost use Rattle.index_set.specs.Walks.{Advances, Begins, Finds, Fits, HasPlace, IsChosen, IsEnded, IsMoved, IsMovedBy, IsSafeBy, LacksKey, Steps, Waits, ahead, reads_ahead, reads_next, walk_of};
+ghost use Rattle.index_set.specs.Walks.{Advances, BeginsWalk, FindsAhead, Fits, HasPlace, IsChosen, IsEnded, IsMoved, IsMovedBy, IsSafeBy, LacksKey, Steps, Waits, ahead, reads_ahead, reads_next, walk_of_search};
 
 use crate::candidates::{Candidates, Search};
 use crate::choices::{Plan, choose, range_of};
@@ -46,11 +46,11 @@ impl Candidates {
         requires readable { AreReadable (V.state files.old) slots indexes.now }
         ensures begins { let state = V.state files.old in IsTrue state.tells → IfOk result (λ c.
             (all : List Row) → slots ≤ length all → AreIndexesOf state tables.now all indexes.now
-            → Begins c slots indexes.now ranges.now state tables.now all) }
+            → BeginsWalk c slots indexes.now ranges.now state tables.now all) }
         ensures rests { IfOk result (λ c. c.place ≡ None) }
         ensures safe { IfOk result (λ c. IsSafeBy c.search (V.state files.old)) }
         ensures chosen { IfOk result (λ c. IsChosen c.search indexes.now) }
-        ensures walk { IfOk result (λ c. walk_of c.search
+        ensures walk { IfOk result (λ c. walk_of_search c.search
             ≡ walk_by (kinds indexes.now) (plan (kinds indexes.now) ranges.now)) }
         ensures slots { IfOk result (λ c. c.slots ≡ slots) }
         ensures reads { let plan = plan (kinds indexes.now) ranges.now in
@@ -174,7 +174,7 @@ impl Candidates {
         requires safe { 0 < self.old.slots → IsSafeBy self.old.search (V.state files.old) }
         ensures finds { let state = V.state files.old in IsTrue state.tells → IfOk result (λ found.
             (all : List Row) → Fits self.old state tables.now all
-            → Finds found self.old self.new state tables.now all) }
+            → FindsAhead found self.old self.new state tables.now all) }
         ensures reads { let state = V.state files.old in IsTrue state.tells → OnOk result
             ((all : List Row) → Fits self.old state tables.now all
             → V.reads files.new + reads_ahead self.new all

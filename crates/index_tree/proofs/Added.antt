@@ -1,16 +1,12 @@
 -- A pair that is put into the first bucket with room on its path makes the tree of one pair more.
 use Rattle.std.proofs.Common.{◌≡◌, ◌≢◌, ◌≤◌, ◌<◌, ◌+◌, ℕ, ℤ, zero, suc, List, [], ◌∷◌, ◌++◌, length, get_or, true, refl, arith, ap, ◌∙◌, sym, ◌⊎◌, inl, inr, ⊎_elim, subst, length-append}
-use Rattle.std.specs.Prelude.{nat_eq}
 use Rattle.std.proofs.lemmas.List.{get_or_append_left}
 use Rattle.db_model.specs.HashTree.{digit, node}
 use Rattle.index_tree.specs.Pairs.{Pair, goes, no_pair, reaching, sifted}
-use Rattle.index_tree.specs.TreeFile.{HoldsPairs, IsBucket, IsTree, next_number, place_of, key_at, last_at, bucket_number, number_of, slot_at}
+use Rattle.index_tree.specs.TreeFile.{HoldsPairs, IsBucket, IsTree, next_number, numbered_place, key_at, last_at, bucket_number, number_of, slot_at}
 use Rattle.index_tree.specs.Places.{SlotsRise}
 use Rattle.index_tree.proofs.Reach.{reach-append}
-use Rattle.index_tree.proofs.Shared.{Same, Full, order, one, grows, apart, reach_same, goes_self}
-
-eqb-eq : (m n : ℕ) → nat_eq m n ≡ true → m ≡ n
-eqb-eq m n e = grind arith
+use Rattle.index_tree.proofs.Shared.{Full, Same, apart, eqb-eq, goes_self, grows, one, order, reach_same}
 
 same_true : (a b : ℤ) (i : ℕ) → Same a b i → goes a i (record { key = b; slot = 0 }) ≡ true
 same_true a b i same = same (record { key = b; slot = 0 }) ∙ goes_self b i (record { key = b; slot = 0 }) refl
@@ -78,8 +74,8 @@ pub record AddsPair (old new : List ℕ) (ps : List Pair) (q : Pair) (hop : ℕ)
   pub some : number_of old q.key hop ≢ 0
   pub numbers : (key : ℤ) (h : ℕ) → number_of new key h ≡ number_of old key h
   pub size : length new ≡ length old
-  pub others : (n : ℕ) → n ≢ 0 → n ≢ number_of old q.key hop → KeepsBucket old new (place_of n)
-  pub here : HoldsPairs new (place_of (number_of old q.key hop)) (reaching (goes q.key) hop ps ++ q ∷ [])
+  pub others : (n : ℕ) → n ≢ 0 → n ≢ number_of old q.key hop → KeepsBucket old new (numbered_place n)
+  pub here : HoldsPairs new (numbered_place (number_of old q.key hop)) (reaching (goes q.key) hop ps ++ q ∷ [])
 
 -- the pair comes to the end of its path and to no other place with room
 pub only_end : (ps : List Pair) (q : Pair) (hop : ℕ) → Full q.key ps hop → length (reaching (goes q.key) hop ps) < 32 → (key : ℤ) (h : ℕ) → Full key ps h → ((i : ℕ) → i < h → Same key q.key i) → length (reaching (goes key) h ps) < 32 → h ≡ hop
@@ -119,10 +115,10 @@ pub same_bucket : (old : List ℕ) (ps : List Pair) → ((key : ℤ) (hop : ℕ)
 same_bucket old ps each rises a b h k some e =
     let x = cons_of (reaching (goes a) h ps) ((each a h).some some) in
     let y = cons_of (reaching (goes b) k ps) ((each b k).some (rw (sym e) some)) in
-    let one : HoldsPairs old (place_of (number_of old a h)) (x.0 ∷ x.1) = subst (λ xs. HoldsPairs old (place_of (number_of old a h)) xs) x.2 ((each a h).holds some) in
-    let there : HoldsPairs old (place_of (number_of old b k)) (y.0 ∷ y.1) = subst (λ xs. HoldsPairs old (place_of (number_of old b k)) xs) y.2 ((each b k).holds (rw (sym e) some)) in
-    let other : HoldsPairs old (place_of (number_of old a h)) (y.0 ∷ y.1) = subst (λ n. HoldsPairs old (place_of n) (y.0 ∷ y.1)) (sym e) there in
-    let first : x.0 ≡ y.0 = same_first old (place_of (number_of old a h)) x.0 y.0 x.1 y.1 one other in
+    let one : HoldsPairs old (numbered_place (number_of old a h)) (x.0 ∷ x.1) = subst (λ xs. HoldsPairs old (numbered_place (number_of old a h)) xs) x.2 ((each a h).holds some) in
+    let there : HoldsPairs old (numbered_place (number_of old b k)) (y.0 ∷ y.1) = subst (λ xs. HoldsPairs old (numbered_place (number_of old b k)) xs) y.2 ((each b k).holds (rw (sym e) some)) in
+    let other : HoldsPairs old (numbered_place (number_of old a h)) (y.0 ∷ y.1) = subst (λ n. HoldsPairs old (numbered_place n) (y.0 ∷ y.1)) (sym e) there in
+    let first : x.0 ≡ y.0 = same_first old (numbered_place (number_of old a h)) x.0 y.0 x.1 y.1 one other in
     apart ps a b h k x.0 x.1 y.1 rises x.2 (y.2 ∙ ap (λ r. r ∷ y.1) (sym first))
 
 -- the bucket with room has the pair now
@@ -145,7 +141,7 @@ bucket_other : (old new : List ℕ) (ps : List Pair) (q : Pair) (hop : ℕ) → 
     (rest ≡ reaching (goes key) h ps) ⊎ ((32 ≤ length (reaching (goes key) h ps)) × (rest ≡ reaching (goes key) h ps ++ q ∷ [])) → IsBucket new (number_of old key h) rest
 bucket_other old new ps q hop tree adds key h some apart_ rest (inl same) =
     let keeps = adds.others (number_of old key h) some apart_ in
-    rw same (record { none = λ z. absurd (some z); some = λ z. (tree.each key h).some some; within = λ z. rw adds.size ((tree.each key h).within some); holds = λ z. holds_kept old new (place_of (number_of old key h)) (reaching (goes key) h ps) keeps ((tree.each key h).holds some) })
+    rw same (record { none = λ z. absurd (some z); some = λ z. (tree.each key h).some some; within = λ z. rw adds.size ((tree.each key h).within some); holds = λ z. holds_kept old new (numbered_place (number_of old key h)) (reaching (goes key) h ps) keeps ((tree.each key h).holds some) })
 bucket_other old new ps q hop tree adds key h some apart_ rest (inr grown) =
     let keeps = adds.others (number_of old key h) some apart_ in
     let much : 32 ≤ length (reaching (goes key) h ps) = grown.0 in
@@ -154,7 +150,7 @@ bucket_other old new ps q hop tree adds key h some apart_ rest (inr grown) =
       none = λ z. absurd (some z);
       some = λ z. omega arith;
       within = λ z. rw adds.size ((tree.each key h).within some);
-      holds = λ z. holds_kept old new (place_of (number_of old key h)) (reaching (goes key) h ps ++ q ∷ []) keeps (holds_more old (place_of (number_of old key h)) (reaching (goes key) h ps) q much ((tree.each key h).holds some));
+      holds = λ z. holds_kept old new (numbered_place (number_of old key h)) (reaching (goes key) h ps ++ q ∷ []) keeps (holds_more old (numbered_place (number_of old key h)) (reaching (goes key) h ps) q much ((tree.each key h).holds some));
     })
 
 -- each bucket holds what it should

@@ -8,7 +8,7 @@ use Rattle.index_tree.specs.Loads.{opened_bucket}
 use Rattle.index_tree.specs.Pairs.{Pair, goes, pair_keys, no_pair, pair_of, pairs_of, reaching}
 use Rattle.index_tree.specs.Places.{SlotsRise}
 use Rattle.index_tree.specs.Rules.{MeetsRules, bucket_count, slot_on}
-use Rattle.index_tree.specs.TreeFile.{HoldsPairs, IsTree, bucket_place, key_at, last_at, number_of, place_of, slot_at}
+use Rattle.index_tree.specs.TreeFile.{HoldsPairs, IsTree, bucket_place, key_at, last_at, number_of, numbered_place, slot_at}
 use Rattle.index_tree.proofs.Added.{number_same, same_bucket, same_node}
 use Rattle.index_tree.proofs.Bijections.{count, count_more, count_none, onto}
 use Rattle.index_tree.proofs.Counted.{buckets_more}
@@ -112,14 +112,14 @@ module _ (bytes : List ℕ) (f : ℕ → ℤ) (n : ℕ) (few_slots : n ≤ 32768
   number s = number_of bytes (f s) (end_of s).0
 
   -- its bucket begins with it
-  begins : (s : ℕ) → s < n → o s ≡ 1 → (number s ≢ 0) × (slot_at bytes (place_of (number s)) 0 ≡ s + 1)
+  begins : (s : ℕ) → s < n → o s ≡ 1 → (number s ≢ 0) × (slot_at bytes (numbered_place (number s)) 0 ≡ s + 1)
   unfolding o number
   begins s small marked =
       let h : ℕ = (end_of s).0 in
       let none : reaching (goes (f s)) h (pairs_of f s) ≡ [] = none_of (reaching (goes (f s)) h (pairs_of f s)) (λ x. not_open (length (reaching (goes (f s)) h (pairs_of f s))) x marked) in
       let has = expected bytes f n s h tree small (end_of s).1 in
-      let at : slot_at bytes (place_of (number_of bytes (f s) h)) (length (reaching (goes (f s)) h (pairs_of f s))) ≡ s + 1 = has.slot in
-      (has.some, subst (λ (xs : List Pair). slot_at bytes (place_of (number_of bytes (f s) h)) (length xs) ≡ s + 1) none at)
+      let at : slot_at bytes (numbered_place (number_of bytes (f s) h)) (length (reaching (goes (f s)) h (pairs_of f s))) ≡ s + 1 = has.slot in
+      (has.some, subst (λ (xs : List Pair). slot_at bytes (numbered_place (number_of bytes (f s) h)) (length xs) ≡ s + 1) none at)
 
   owned : (b : ℕ) → b < bucket_count bytes → (k : ℤ) × (hop : ℕ) × (number_of bytes k hop ≡ b + 1)
   unfolding number
@@ -131,7 +131,7 @@ module _ (bytes : List ℕ) (f : ℕ → ℤ) (n : ℕ) (few_slots : n ≤ 32768
       let p = x.0 in let q = y.0 in
       let same : number s ≡ number t = omega (arith, e, p, q) in
       let u = x.1 in
-      let w : slot_at bytes (place_of (number s)) 0 ≡ t + 1 = rw same y.1 in
+      let w : slot_at bytes (numbered_place (number s)) 0 ≡ t + 1 = rw same y.1 in
       omega (arith, u, w))
       (sym (total n) ∙ count_is) b inside in
       let s : ℕ = found.0 in
@@ -197,13 +197,13 @@ module _ (bytes : List ℕ) (f : ℕ → ℤ) (n : ℕ) (few_slots : n ≤ 32768
       let places : a ≡ b = neither_less a b (λ less. (let up = rises_index (reaching (goes p.key) g ps) a b risen less b_again in omega (arith, up, e, e_))) (λ less. (let up = rises_index (reaching (goes p.key) g ps) b a risen less a_in in omega (arith, up, e, e_))) in
       (hops, places, λ i l. λ r. to_p i l r ∙ sym (to_q i (omega (arith, l, hops)) r))
 
-  bucket_of : (b : ℕ) → b < bucket_count bytes → (k : ℤ) × (h : ℕ) × (number_of bytes k h ≢ 0) × (place_of (number_of bytes k h) ≡ bucket_place b)
+  bucket_of : (b : ℕ) → b < bucket_count bytes → (k : ℤ) × (h : ℕ) × (number_of bytes k h ≢ 0) × (numbered_place (number_of bytes k h) ≡ bucket_place b)
   bucket_of b inside =
       let own = owned b inside in
       let e = own.2 in
       (own.0, own.1, λ z. omega (arith, z, e), place_is (number_of bytes own.0 own.1) b e)
     where
-      place_is : (m c : ℕ) → m ≡ c + 1 → place_of m ≡ bucket_place c
+      place_is : (m c : ℕ) → m ≡ c + 1 → numbered_place m ≡ bucket_place c
       place_is m c e = omega (arith, e)
 
   reached : (k : ℤ) (h : ℕ) → number_of bytes k h ≢ 0 → 0 < length (reaching (goes k) h ps)
@@ -291,7 +291,7 @@ module _ (bytes : List ℕ) (f : ℕ → ℤ) (n : ℕ) (few_slots : n ≤ 32768
         let slots : pp.0 ≡ qq.0 = omega (arith, one, s, t, u, v) in
         let there = alone own.0 its.0 own.1 its.1 i j short_i short_j p.0 q.0 (pp.2 ∙ ap (pair_of f) slots ∙ sym qq.2) in
         let numbers : number_of bytes own.0 own.1 ≡ number_of bytes its.0 its.1 = number_same bytes own.0 its.0 own.1 there.2 ∙ ap (number_of bytes its.0) there.0 in
-        let place : bucket_place b ≡ bucket_place c = sym own.3 ∙ ap place_of numbers ∙ its.3 in
+        let place : bucket_place b ≡ bucket_place c = sym own.3 ∙ ap numbered_place numbers ∙ its.3 in
         (omega (arith, place), there.1);
     known = λ b i inside short. ⊎_elim
         (λ (z : slot_at bytes (bucket_place b) i ≤ 0). omega (arith, z))

@@ -108,7 +108,7 @@ passes above level keys k full =
 
 -- ---- one key more
 
-opened_some : (n : ℕ) → 0 < n → opened_bucket n ≡ 0
+pub opened_some : (n : ℕ) → 0 < n → opened_bucket n ≡ 0
 opened_some zero h = absurd (omega arith)
 opened_some (suc n) h = refl
 

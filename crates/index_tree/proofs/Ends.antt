@@ -6,7 +6,7 @@ use Rattle.std.proofs.lemmas.Bool.{cases_eq}
 use Rattle.std.proofs.lemmas.Bool.Decides.{nat_tests}
 use Rattle.index_tree.specs.Ends.{IsPathEnd, end_from, path_end, filled_from, filled_of}
 use Rattle.index_tree.specs.Pairs.{Pair, goes, no_pair, reaching}
-use Rattle.index_tree.specs.TreeFile.{HoldsPairs, IsBucket, IsTree, number_of, place_of, slot_at}
+use Rattle.index_tree.specs.TreeFile.{HoldsPairs, IsBucket, IsTree, number_of, numbered_place, slot_at}
 use Rattle.index_tree.proofs.Reach.{deep}
 
 -- a bucket's filled pairs are those that it holds, at most 32
@@ -31,8 +31,8 @@ filled_bucket bytes number rest bucket =
     (λ none. let empty : rest ≡ [] = bucket.none none in rw (none, empty) refl)
     (λ some.
     let there : (number == 0) ≡ false = grind (arith, nat_tests) in
-    let filled : filled_from 32 bytes (place_of number) 0 ≡ min 32 (length rest) =
-    filled_is 32 bytes (place_of number) 0 rest (min 32 (length rest)) (bucket.holds some) refl (omega arith) (omega arith) (omega arith) (λ h. omega (arith, h)) in
+    let filled : filled_from 32 bytes (numbered_place number) 0 ≡ min 32 (length rest) =
+    filled_is 32 bytes (numbered_place number) 0 rest (min 32 (length rest)) (bucket.holds some) refl (omega arith) (omega arith) (omega arith) (λ h. omega (arith, h)) in
     rw there filled)
     (cases_eq number 0)
 

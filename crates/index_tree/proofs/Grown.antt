@@ -1,7 +1,7 @@
 -- A bucket that is added where a path ends makes the tree of one pair more; and what stays good through inserts.
 use Rattle.std.proofs.Common.{◌≡◌, ◌≢◌, ◌≤◌, ◌<◌, ◌+◌, ℕ, ℤ, List, [], ◌∷◌, ◌++◌, length, refl, arith, ap, ◌∙◌, sym, ◌⊎◌, inl, inr, ⊎_elim, subst, length-append}
 use Rattle.index_tree.specs.Pairs.{Pair, goes, reaching}
-use Rattle.index_tree.specs.TreeFile.{HoldsPairs, IsBucket, IsTree, bucket_place, place_of, number_of}
+use Rattle.index_tree.specs.TreeFile.{HoldsPairs, IsBucket, IsTree, bucket_place, numbered_place, number_of}
 use Rattle.index_tree.proofs.Reach.{reach-append}
 use Rattle.index_tree.proofs.Shared.{Same, Full, order, grows, reach_same, goes_self}
 use Rattle.index_tree.proofs.Added.{KeepsBucket, holds_kept, holds_more, only_end, passes_all}
@@ -15,14 +15,14 @@ pub record AddsBucket (old new : List ℕ) (ps : List Pair) (q : Pair) (hop numb
   pub numbers : (key : ℤ) (h : ℕ) → (h ≡ hop → ((i : ℕ) → i < hop → Same key q.key i) → ⊥) → number_of new key h ≡ number_of old key h
   pub longer : length old ≤ length new
   pub within : bucket_place number ≤ length new
-  pub others : (key : ℤ) (h : ℕ) → number_of old key h ≢ 0 → KeepsBucket old new (place_of (number_of old key h))
-  pub here : HoldsPairs new (place_of number) (q ∷ [])
+  pub others : (key : ℤ) (h : ℕ) → number_of old key h ≢ 0 → KeepsBucket old new (numbered_place (number_of old key h))
+  pub here : HoldsPairs new (numbered_place number) (q ∷ [])
 
 bucket_same : (old new : List ℕ) (ps : List Pair) (q : Pair) (hop number : ℕ) → IsTree old ps → AddsBucket old new ps q hop number → (key : ℤ) (h : ℕ) → number_of new key h ≡ number_of old key h → (rest : List Pair) →
     (rest ≡ reaching (goes key) h ps) ⊎ ((32 ≤ length (reaching (goes key) h ps)) × (rest ≡ reaching (goes key) h ps ++ q ∷ [])) → IsBucket new (number_of new key h) rest
 bucket_same old new ps q hop number tree adds key h is rest (inl same) =
     let longer = adds.longer in
-    rw is (rw same (record { none = λ z. (tree.each key h).none z; some = λ z. (tree.each key h).some z; within = λ z. let now = (tree.each key h).within z in omega (arith, now); holds = λ z. holds_kept old new (place_of (number_of old key h)) (reaching (goes key) h ps) (adds.others key h z) ((tree.each key h).holds z) }))
+    rw is (rw same (record { none = λ z. (tree.each key h).none z; some = λ z. (tree.each key h).some z; within = λ z. let now = (tree.each key h).within z in omega (arith, now); holds = λ z. holds_kept old new (numbered_place (number_of old key h)) (reaching (goes key) h ps) (adds.others key h z) ((tree.each key h).holds z) }))
 bucket_same old new ps q hop number tree adds key h is rest (inr grown) =
     let much : 32 ≤ length (reaching (goes key) h ps) = grown.0 in
     let longer = adds.longer in
@@ -31,7 +31,7 @@ bucket_same old new ps q hop number tree adds key h is rest (inr grown) =
       none = λ z. let empty : length (reaching (goes key) h ps) ≡ 0 = ap length ((tree.each key h).none z) in absurd (omega (arith, empty, much));
       some = λ z. omega (arith, sum);
       within = λ z. let now = (tree.each key h).within z in omega (arith, now);
-      holds = λ z. holds_kept old new (place_of (number_of old key h)) (reaching (goes key) h ps ++ q ∷ []) (adds.others key h z) (holds_more old (place_of (number_of old key h)) (reaching (goes key) h ps) q much ((tree.each key h).holds z));
+      holds = λ z. holds_kept old new (numbered_place (number_of old key h)) (reaching (goes key) h ps ++ q ∷ []) (adds.others key h z) (holds_more old (numbered_place (number_of old key h)) (reaching (goes key) h ps) q much ((tree.each key h).holds z));
     }))
 
 -- each bucket holds what it should

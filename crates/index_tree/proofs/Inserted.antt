@@ -13,7 +13,7 @@ use Rattle.index_tree.specs.Buckets.{IsFirstBucket, IsPairBytes}
 use Rattle.index_tree.specs.Ends.{IsPathEnd, spot_of}
 use Rattle.index_tree.specs.Pairs.{Pair, goes, pair_keys, reaching}
 use Rattle.index_tree.specs.Places.{IsGrown, SlotsRise}
-use Rattle.index_tree.specs.TreeFile.{IsTree, bucket_place, number_of, place_of}
+use Rattle.index_tree.specs.TreeFile.{IsTree, bucket_place, number_of, numbered_place}
 use Rattle.index_tree.proofs.Counted.{length-keys}
 use Rattle.index_tree.proofs.Frames.{SameBytes, i32_same, u16_same}
 use Rattle.index_tree.proofs.PutBucket.{appends, bucket_put}
@@ -45,7 +45,7 @@ grown_new old new w two_ ps q hop at tree rises few end none spot fits first lon
     rw (new_is, spot) (bucket_put old (put_at (old ++ w) (spot_of old q.key hop) two_) ps q hop n
     (appends old w two_ ps q hop n tree rises end none first (rw (sym spot) fits) long number (λ z. omega arith) (place_is (length old) (buckets (pair_keys ps)) size)) few end)
   where
-    place_is : (len b : ℕ) → len ≡ bucket_place b → place_of ((len - 683) / 195 + 1) ≡ len
+    place_is : (len b : ℕ) → len ≡ bucket_place b → numbered_place ((len - 683) / 195 + 1) ≡ len
     place_is len b e = omega arith
 
 -- a tree is small

@@ -1,6 +1,7 @@
 use Rattle.std.proofs.Common.{◌≡◌, ◌≤◌, ◌<◌, ◌+◌, ◌*◌, ◌-◌, ◌/◌, ℕ, ℤ, zero, suc, List, [], ◌∷◌, length, drop, Bool, true, false, cond, refl, arith, ap, sym, ◌⊎◌, ⊎_elim, subst}
 use Rattle.std.specs.List.{filter}
 use Rattle.std.proofs.lemmas.List.{length-drop}
+use Rattle.index_tree.proofs.Shared.{order}
 use Rattle.index_tree.specs.Pairs.{Pair, goes, reaching, sifted}
 use Rattle.index_tree.specs.Places.{IsOnPath}
 use Rattle.padded.proofs.Facts.{filter_few}
@@ -41,9 +42,6 @@ all_stay : (ps : List Pair) → filter always ps ≡ ps
 unfolding always
 all_stay [] = refl
 all_stay (p ∷ ps) = ap (λ xs. p ∷ xs) (all_stay ps)
-
-order : (m n : ℕ) → (m ≤ n) ⊎ (n < m)
-order m n = grind arith
 
 -- each full bucket takes 32 pairs from those that go on
 pub deep_from : (test : ℕ → Pair → Bool) (ps : List Pair) (h hop : ℕ) → h ≤ hop → ((i : ℕ) → i < hop → 32 ≤ length (reaching test i ps)) → 32 * (hop - h) + length (reaching test hop ps) ≤ length (reaching test h ps)

@@ -5,7 +5,7 @@ use Rattle.std.proofs.lemmas.List.{get_or_past, get_or-replicate, get_or-set_oth
 use Rattle.std.proofs.lemmas.List.FromFn.{map-range_with_len_more}
 use Rattle.db_model.specs.HashTree.{buckets, node}
 use Rattle.index_tree.specs.Ends.{IsPathEnd}
-use Rattle.index_tree.specs.Loads.{Counts, IsLevel, Loads, load_of, opened_bucket}
+use Rattle.index_tree.specs.Loads.{CountsPairs, IsLevel, Loads, load_of, opened_bucket}
 use Rattle.index_tree.specs.Pairs.{Pair, goes, pair_keys, pair_of, pairs_of, reaching}
 use Rattle.index_tree.proofs.Added.{passes_all, same_node, same_or}
 use Rattle.index_tree.proofs.Counted.{buckets_more, chain, reach_chain}
@@ -33,7 +33,7 @@ load_lowest (suc (suc (suc zero))) n h = absurd (omega arith)
 load_lowest (suc (suc (suc (suc more)))) n h = refl
 
 -- all buckets of the nodes before are full
-full_level : (loads : List ℕ) (ps : List Pair) (key : ℤ) (level : ℕ) → Counts loads ps → IsLevel loads key level → Full key ps level
+full_level : (loads : List ℕ) (ps : List Pair) (key : ℤ) (level : ℕ) → CountsPairs loads ps → IsLevel loads key level → Full key ps level
 full_level loads ps key level counts is i h =
     let low = is.low in
     let much = is.full i h in
@@ -49,7 +49,7 @@ end_there key ps = ⊎_elim
     (full_or_room key ps (length ps + 1))
 
 -- the end of a path is at the level, or in the chain of the lowest node
-pub end_level : (loads : List ℕ) (ps : List Pair) (key : ℤ) (level : ℕ) → Counts loads ps → IsLevel loads key level →
+pub end_level : (loads : List ℕ) (ps : List Pair) (key : ℤ) (level : ℕ) → CountsPairs loads ps → IsLevel loads key level →
     (hop : ℕ) × IsPathEnd ps key hop × (hop ≡ level + get_or loads (node key level) 0 / 32) × (length (reaching (goes key) hop ps) ≡ get_or loads (node key level) 0 % 32)
 end_level loads ps key level counts is =
     let low : level ≤ 4 = is.low in
@@ -88,7 +88,7 @@ load_same : (level n m : ℕ) → level < 4 → 32 ≤ n → m ≡ n + 1 → loa
 load_same level n m upper much is = rw (load_upper level m upper, load_upper level n upper) (omega (arith, much, is))
 
 -- at the node itself one more
-here_more : (loads : List ℕ) (ps : List Pair) (q : Pair) (level : ℕ) (key : ℤ) → Counts loads ps → IsLevel loads q.key level → ((i : ℕ) → i < level → Same key q.key i) →
+here_more : (loads : List ℕ) (ps : List Pair) (q : Pair) (level : ℕ) (key : ℤ) → CountsPairs loads ps → IsLevel loads q.key level → ((i : ℕ) → i < level → Same key q.key i) →
     load_of level (length (reaching (goes key) level (ps ++ q ∷ []))) ≡ load_of level (length (reaching (goes key) level ps)) + 1
 here_more loads ps q level key counts is way =
     let low = is.low in
@@ -108,7 +108,7 @@ here_more loads ps q level key counts is way =
     (low_or level 4)
 
 -- at all others the same
-other_same : (loads : List ℕ) (ps : List Pair) (q : Pair) (level : ℕ) (key : ℤ) (l : ℕ) → Counts loads ps → IsLevel loads q.key level → l ≤ 4 → node key l ≢ node q.key level →
+other_same : (loads : List ℕ) (ps : List Pair) (q : Pair) (level : ℕ) (key : ℤ) (l : ℕ) → CountsPairs loads ps → IsLevel loads q.key level → l ≤ 4 → node key l ≢ node q.key level →
     load_of l (length (reaching (goes key) l (ps ++ q ∷ []))) ≡ load_of l (length (reaching (goes key) l ps))
 other_same loads ps q level key l counts is small other = ⊎_elim
     (λ (same : reaching (goes key) l (ps ++ q ∷ []) ≡ reaching (goes key) l ps). ap (λ (xs : List Pair). load_of l (length xs)) same)
@@ -138,7 +138,7 @@ other_same loads ps q level key l counts is small other = ⊎_elim
     same_way_node : (a b : ℤ) (h : ℕ) → ((i : ℕ) → i < h → Same a b i) → h ≤ 4 → node a h ≡ node b h
     same_way_node a b h way small_ = same_node a b h small_ way
 
-pub counts_more : (loads : List ℕ) (ps : List Pair) (q : Pair) (level : ℕ) → Counts loads ps → IsLevel loads q.key level → Counts (set loads (node q.key level) (get_or loads (node q.key level) 0 + 1)) (ps ++ q ∷ [])
+pub counts_more : (loads : List ℕ) (ps : List Pair) (q : Pair) (level : ℕ) → CountsPairs loads ps → IsLevel loads q.key level → CountsPairs (set loads (node q.key level) (get_or loads (node q.key level) 0 + 1)) (ps ++ q ∷ [])
 counts_more loads ps q level counts is =
     let n : ℕ = node q.key level in
     let v : ℕ = get_or loads n 0 + 1 in
@@ -170,7 +170,7 @@ pub reach_none : (key : ℤ) (l : ℕ) → reaching (goes key) l [] ≡ []
 reach_none key zero = refl
 reach_none key (suc l) = rw (reach_none key l) refl
 
-pub counts_none : Counts (replicate 341 0) []
+pub counts_none : CountsPairs (replicate 341 0) []
 counts_none = record {
   long = refl;
   each = λ key l h. let small = node_small key l h in get_or-replicate 341 (node key l) 0 0 (omega (arith, small)) ∙ sym (ap (λ (xs : List Pair). load_of l (length xs)) (reach_none key l) ∙ load_zero l);
@@ -203,8 +203,8 @@ zeros_few i n = ⊎_elim
     (low_or i 341)
 
 -- one slot more
-pub loads_more : (old new : List ℕ) (f : ℕ → ℤ) (slot n opens : ℕ) (key : ℤ) → Loads old new key opens → key ≡ f slot → Counts old (pairs_of f slot) × (n ≡ buckets (pair_keys (pairs_of f slot))) →
-    Counts new (pairs_of f (slot + 1)) × (n + opens ≡ buckets (pair_keys (pairs_of f (slot + 1))))
+pub loads_more : (old new : List ℕ) (f : ℕ → ℤ) (slot n opens : ℕ) (key : ℤ) → Loads old new key opens → key ≡ f slot → CountsPairs old (pairs_of f slot) × (n ≡ buckets (pair_keys (pairs_of f slot))) →
+    CountsPairs new (pairs_of f (slot + 1)) × (n + opens ≡ buckets (pair_keys (pairs_of f (slot + 1))))
 loads_more old new f slot n opens key loads is before =
     let one : record { key = key; slot = slot } ≡ pair_of f slot = ap (λ (z : ℤ). record { key = z; slot = slot }) is in
     let all : pairs_of f (slot + 1) ≡ pairs_of f slot ++ record { key = key; slot = slot } ∷ [] = pairs_more f slot ∙ ap (λ (p : Pair). pairs_of f slot ++ p ∷ []) (sym one) in

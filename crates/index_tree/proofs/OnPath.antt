@@ -11,7 +11,7 @@ use Rattle.index_tree.specs.Ends.{spot_of}
 use Rattle.index_tree.specs.Pairs.{Pair, goes, has_key, no_pair, reaching}
 use Rattle.index_tree.specs.Places.{IsPlaceAt, SlotsRise, is_wanted}
 use Rattle.index_tree.specs.Rules.{MeetsRules}
-use Rattle.index_tree.specs.TreeFile.{HoldsPairs, IsTree, bucket_place, key_at, next_at, next_number, number_of, place_of, slot_at}
+use Rattle.index_tree.specs.TreeFile.{HoldsPairs, IsTree, bucket_place, key_at, next_at, next_number, number_of, numbered_place, slot_at}
 use Rattle.index_tree.specs.Trees.{IsTreeOf, numbered}
 use Rattle.index_tree.proofs.Added.{number_same}
 use Rattle.index_tree.proofs.Converse.{earlier_less, in_get, reach_goes, rises_index}
@@ -43,7 +43,7 @@ node_spot bytes key (suc (suc (suc zero))) low = refl
 node_spot bytes key (suc (suc (suc (suc zero)))) low = refl
 node_spot bytes key (suc (suc (suc (suc (suc level))))) low = absurd (omega arith)
 
-pub chain_number : (bytes : List ℕ) (key : ℤ) (number hop : ℕ) → number ≡ number_of bytes key hop → number ≢ 0 → 4 ≤ hop → number_of bytes key (hop + 1) ≡ next_at bytes (place_of number)
+pub chain_number : (bytes : List ℕ) (key : ℤ) (number hop : ℕ) → number ≡ number_of bytes key hop → number ≢ 0 → 4 ≤ hop → number_of bytes key (hop + 1) ≡ next_at bytes (numbered_place number)
 chain_number bytes key number hop there some far = rw add-one (ap (next_number bytes key hop) (sym there) ∙ behind_chain bytes key hop number some far)
 
 -- where a bucket stands, those before it are full
@@ -81,19 +81,19 @@ back : (n : ℕ) → n ≢ 0 → n - 1 + 1 ≡ n
 back n s = omega (arith, s)
 
 -- each key of a bucket on a path has that bucket at the same hop
-pair_goes : (bytes : List ℕ) (ps : List Pair) (key : ℤ) (hop number pair : ℕ) → IsTree bytes ps → number_of bytes key hop ≡ number → number ≢ 0 → pair < 32 → slot_at bytes (place_of number) pair ≢ 0 → number_of bytes (key_at bytes (place_of number) pair) hop ≡ number
+pair_goes : (bytes : List ℕ) (ps : List Pair) (key : ℤ) (hop number pair : ℕ) → IsTree bytes ps → number_of bytes key hop ≡ number → number ≢ 0 → pair < 32 → slot_at bytes (numbered_place number) pair ≢ 0 → number_of bytes (key_at bytes (numbered_place number) pair) hop ≡ number
 pair_goes bytes ps key hop number pair tree there some short filled =
     let xs : List Pair = reaching (goes key) hop ps in
     let p : Pair = get_or xs pair no_pair in
     let here : number_of bytes key hop ≢ 0 = λ z. some (sym there ∙ z) in
-    let holds : HoldsPairs bytes (place_of number) xs = subst (λ (n : ℕ). HoldsPairs bytes (place_of n) xs) there ((tree.each key hop).holds here) in
+    let holds : HoldsPairs bytes (numbered_place number) xs = subst (λ (n : ℕ). HoldsPairs bytes (numbered_place n) xs) there ((tree.each key hop).holds here) in
     let within : pair < length xs = ⊎_elim (λ (out : length xs ≤ pair). absurd (filled (holds.empty pair short out))) (λ (x : pair < length xs). x) (order (length xs) pair) in
     ap (λ (k : ℤ). number_of bytes k hop) (holds.key pair short within)
     ∙ sym (number_same bytes key p.key hop (λ i h. same_way key p.key i p (reach_goes (goes key) ps p hop i h (in_get xs pair within)) (goes_self p.key i p refl)))
     ∙ there
 
 -- a bucket lies on the path of each of its keys
-pub pair_on_path : (bytes : List ℕ) (keys : List ℤ) (key : ℤ) (number pair : ℕ) → IsTreeOf bytes keys → number ≢ 0 → bucket_place number ≤ length bytes → pair < 32 → slot_at bytes (place_of number) pair ≢ 0 → key_at bytes (place_of number) pair ≡ key → (hop : ℕ) × (number ≡ number_of bytes key hop)
+pub pair_on_path : (bytes : List ℕ) (keys : List ℤ) (key : ℤ) (number pair : ℕ) → IsTreeOf bytes keys → number ≢ 0 → bucket_place number ≤ length bytes → pair < 32 → slot_at bytes (numbered_place number) pair ≢ 0 → key_at bytes (numbered_place number) pair ≡ key → (hop : ℕ) × (number ≡ number_of bytes key hop)
 pair_on_path bytes keys key number pair tree some within short filled is =
     let rules : MeetsRules bytes (key_in keys) (length keys) = rules_of bytes keys tree in
     let own = rules.owned (number - 1) (inside (length bytes) number some within) in
@@ -102,11 +102,11 @@ pair_on_path bytes keys key number pair tree some within short filled is =
     (hop, sym (pair_goes bytes (numbered 0 keys) own.0 hop number pair tree there some short filled) ∙ ap (λ (k : ℤ). number_of bytes k hop) is)
 
 -- a bucket whose first key has the lowest node of a key lies on the path of that key
-pub bucket_on_path : (bytes : List ℕ) (keys : List ℤ) (key : ℤ) (number : ℕ) → IsTreeOf bytes keys → number ≢ 0 → bucket_place number ≤ length bytes → node (key_at bytes (place_of number) 0) 4 ≡ node key 4 → (hop : ℕ) × (number ≡ number_of bytes key hop)
+pub bucket_on_path : (bytes : List ℕ) (keys : List ℤ) (key : ℤ) (number : ℕ) → IsTreeOf bytes keys → number ≢ 0 → bucket_place number ≤ length bytes → node (key_at bytes (numbered_place number) 0) 4 ≡ node key 4 → (hop : ℕ) × (number ≡ number_of bytes key hop)
 bucket_on_path bytes keys key number tree some within same =
     let first = (rules_of bytes keys tree).some (number - 1) (inside (length bytes) number some within) in
-    let on = pair_on_path bytes keys (key_at bytes (place_of number) 0) number 0 tree some within (omega arith) first refl in
-    (on.0, on.1 ∙ path_same bytes (key_at bytes (place_of number) 0) key on.0 same)
+    let on = pair_on_path bytes keys (key_at bytes (numbered_place number) 0) number 0 tree some within (omega arith) first refl in
+    (on.0, on.1 ∙ path_same bytes (key_at bytes (numbered_place number) 0) key on.0 same)
 
 -- ---- a place behind a pair
 
@@ -141,19 +141,19 @@ later_reach ps key from hop q rises less there (suc h) up =
     ∙ later_reach ps key from hop q rises less there h (omega (arith, up))
 
 -- behind the pair of a slot stand all later slots of a key that has that bucket on its path
-pub place_behind : (bytes : List ℕ) (keys : List ℤ) (key : ℤ) (from number pair hop : ℕ) → IsTreeOf bytes keys → number ≡ number_of bytes key hop → number ≢ 0 → 0 < pair → pair ≤ 32 → 0 < from → slot_at bytes (place_of number) (pair - 1) ≡ from →
+pub place_behind : (bytes : List ℕ) (keys : List ℤ) (key : ℤ) (from number pair hop : ℕ) → IsTreeOf bytes keys → number ≡ number_of bytes key hop → number ≢ 0 → 0 < pair → pair ≤ 32 → 0 < from → slot_at bytes (numbered_place number) (pair - 1) ≡ from →
     IsPlaceAt bytes (numbered 0 keys) key from number pair hop
 place_behind bytes keys key from number pair hop tree there some low short begun is =
     let ps : List Pair = numbered 0 keys in
     let xs : List Pair = reaching (goes key) hop ps in
     let here : number_of bytes key hop ≢ 0 = subst (λ (n : ℕ). n ≢ 0) there some in
-    let holds : HoldsPairs bytes (place_of number) xs = subst (λ (n : ℕ). HoldsPairs bytes (place_of n) xs) (sym there) ((tree.each key hop).holds here) in
+    let holds : HoldsPairs bytes (numbered_place number) xs = subst (λ (n : ℕ). HoldsPairs bytes (numbered_place n) xs) (sym there) ((tree.each key hop).holds here) in
     let last : pair - 1 < 32 = omega (arith, low, short) in
     let within : pair - 1 < length xs = ⊎_elim
     (λ (out : length xs ≤ pair - 1). let none = holds.empty (pair - 1) last out in absurd (omega (arith, none, is, begun)))
     (λ (x : pair - 1 < length xs). x) (order (length xs) (pair - 1)) in
     let q : Pair = get_or xs (pair - 1) no_pair in
-    let slot : slot_at bytes (place_of number) (pair - 1) ≡ q.slot + 1 = holds.slot (pair - 1) last within in
+    let slot : slot_at bytes (numbered_place number) (pair - 1) ≡ q.slot + 1 = holds.slot (pair - 1) last within in
     let rises : SlotsRise ps = rises_numbered 0 keys in
     record {
       there = there;

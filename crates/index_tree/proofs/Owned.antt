@@ -5,7 +5,7 @@ use Rattle.db_model.specs.HashTree.{buckets}
 use Rattle.index_tree.specs.Ends.{IsPathEnd}
 use Rattle.index_tree.specs.Loads.{opened_bucket}
 use Rattle.index_tree.specs.Pairs.{Pair, goes, pair_keys, pair_of, pairs_of, reaching}
-use Rattle.index_tree.specs.TreeFile.{HoldsPairs, IsBucket, bucket_place, number_of, place_of, slot_at}
+use Rattle.index_tree.specs.TreeFile.{HoldsPairs, IsBucket, bucket_place, number_of, numbered_place, slot_at}
 use Rattle.index_tree.proofs.Added.{cons_of, number_same, passes_all}
 use Rattle.index_tree.proofs.Bijections.{bijection, count, count_more, count_none}
 use Rattle.index_tree.proofs.Counted.{buckets_more}
@@ -104,8 +104,8 @@ module _ (bytes : List ℕ) (f : ℕ → ℤ) (n many : ℕ) (each : (key : ℤ)
       let s : ℕ = member.0 in
       let small : s < 0 + n = member.2 in
       let its_slot : p.slot ≡ s = ap (λ (x : Pair). x.slot) member.3 in
-      let holds : HoldsPairs bytes (place_of (number_of bytes key h)) (p ∷ list.1) = subst (λ (xs : List Pair). HoldsPairs bytes (place_of (number_of bytes key h)) xs) list.2 (bucket.holds some) in
-      let at : place_of (number_of bytes key h) ≡ bucket_place b = ap place_of own.2 ∙ ap bucket_place (less b) in
+      let holds : HoldsPairs bytes (numbered_place (number_of bytes key h)) (p ∷ list.1) = subst (λ (xs : List Pair). HoldsPairs bytes (numbered_place (number_of bytes key h)) xs) list.2 (bucket.holds some) in
+      let at : numbered_place (number_of bytes key h) ≡ bucket_place b = ap numbered_place own.2 ∙ ap bucket_place (less b) in
       let number : slot_at bytes (bucket_place b) 0 ≡ p.slot + 1 = rw at at (holds.slot 0 (omega arith) (omega arith)) in
       let is : slot_at bytes (bucket_place b) 0 - 1 ≡ s = omega (arith, number, its_slot) in
       let split = later f key h s (n - s) in
@@ -160,8 +160,8 @@ module _ (bytes : List ℕ) (f : ℕ → ℤ) (n many : ℕ) (each : (key : ℤ)
       let whole : reaching (goes (f s)) h (pairs_of f n) ≡ q ∷ after.0 = rw all at after.1 ∙ ap (λ (xs : List Pair). xs ++ after.0) now in
       let number : ℕ = number_of bytes (f s) h in
       let some : number ≢ 0 = λ z. let empty : length (reaching (goes (f s)) h (pairs_of f n)) ≡ 0 = ap length ((each (f s) h).none z) in let long = ap length whole in omega (arith, empty, long) in
-      let holds : HoldsPairs bytes (place_of number) (q ∷ after.0) = subst (λ (xs : List Pair). HoldsPairs bytes (place_of number) xs) whole ((each (f s) h).holds some) in
-      let slot : slot_at bytes (place_of number) 0 ≡ s + 1 = holds.slot 0 (omega arith) (omega arith) in
+      let holds : HoldsPairs bytes (numbered_place number) (q ∷ after.0) = subst (λ (xs : List Pair). HoldsPairs bytes (numbered_place number) xs) whole ((each (f s) h).holds some) in
+      let slot : slot_at bytes (numbered_place number) 0 ≡ s + 1 = holds.slot 0 (omega arith) (omega arith) in
       let bound = named (f s) h in
       (number - 1, omega (arith, some, bound), omega (arith, slot))
     where

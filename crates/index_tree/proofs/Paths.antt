@@ -9,7 +9,7 @@ use Rattle.index_tree.specs.Ends.{filled_of}
 use Rattle.afl_base.specs.Keys.{is_key_at}
 use Rattle.index_tree.specs.Pairs.{Pair, goes, has_key, no_pair, reaching, slots_of}
 use Rattle.index_tree.specs.Trees.{IsTreeOf, numbered, pair_in, pairs_along, pairs_in}
-use Rattle.index_tree.specs.TreeFile.{IsBucket, IsTree, number_of, place_of, slot_at}
+use Rattle.index_tree.specs.TreeFile.{IsBucket, IsTree, number_of, numbered_place, slot_at}
 use Rattle.index_tree.proofs.Added.{same_pair, zero_or}
 use Rattle.index_tree.proofs.Ends.{filled_bucket}
 use Rattle.index_tree.proofs.Loaded.{end_there}
@@ -40,10 +40,10 @@ bucket_pairs bytes number rest bucket =
     (λ (none : number ≡ 0). let empty : rest ≡ [] = bucket.none none in rw (filled, empty) refl)
     (λ (some : number ≢ 0).
     let holds = bucket.holds some in
-    rw filled (front_is (pair_in bytes (place_of number)) 0 (min 32 (length rest)) rest (omega arith)
-    (λ i h. let n : slot_at bytes (place_of number) i ≡ (get_or rest i no_pair).slot + 1 = holds.slot i (omega (arith, h)) (omega (arith, h)) in
+    rw filled (front_is (pair_in bytes (numbered_place number)) 0 (min 32 (length rest)) rest (omega arith)
+    (λ i h. let n : slot_at bytes (numbered_place number) i ≡ (get_or rest i no_pair).slot + 1 = holds.slot i (omega (arith, h)) (omega (arith, h)) in
     let z : 0 + i ≡ i = omega arith in
-    rw z (same_pair (pair_in bytes (place_of number) i) (get_or rest i no_pair) (holds.key i (omega (arith, h)) (omega (arith, h))) (omega (arith, n))))
+    rw z (same_pair (pair_in bytes (numbered_place number) i) (get_or rest i no_pair) (holds.key i (omega (arith, h)) (omega (arith, h))) (omega (arith, n))))
     ∙ take_min 32 rest))
     (zero_or number)
 

@@ -8,7 +8,7 @@ use Rattle.index_tree.specs.Buckets.{IsFirstBucket}
 use Rattle.index_tree.specs.Ends.{IsPathEnd, spot_of}
 use Rattle.index_tree.specs.Pairs.{Pair, goes, pair_keys, reaching}
 use Rattle.index_tree.specs.Places.{IsGrown, SlotsRise}
-use Rattle.index_tree.specs.TreeFile.{HoldsPairs, IsTree, next_number, bucket_place, next_at, bucket_number, number_of, place_of}
+use Rattle.index_tree.specs.TreeFile.{HoldsPairs, IsTree, next_number, bucket_place, next_at, bucket_number, number_of, numbered_place}
 use Rattle.index_tree.proofs.Added.{KeepsBucket, number_same, same_bucket, same_digit, same_node, same_or, zero_or}
 use Rattle.index_tree.proofs.Counted.{buckets_more}
 use Rattle.index_tree.proofs.Frames.{SameBytes, append_before, append_here, i32_same, put_here, put_outside, trans_same, u16_same}
@@ -42,7 +42,7 @@ pub node_way : (a b : ℤ) (h k : ℕ) → node a h ≡ node b k → (h ≡ k) �
 node_way a b h k e = let both = node_same a b h k e in (both.0, λ i j. digit_same a b i (both.1 i j))
 
 -- behind the nodes of the head the number stands at the end of the bucket before
-pub spot_chain : (bytes : List ℕ) (k : ℤ) (j : ℕ) → 4 ≤ j → spot_of bytes k (suc j) ≡ place_of (number_of bytes k j) + 192
+pub spot_chain : (bytes : List ℕ) (k : ℤ) (j : ℕ) → 4 ≤ j → spot_of bytes k (suc j) ≡ numbered_place (number_of bytes k j) + 192
 spot_chain bytes k zero h = absurd (omega arith)
 spot_chain bytes k (suc zero) h = absurd (omega arith)
 spot_chain bytes k (suc (suc zero)) h = absurd (omega arith)
@@ -68,7 +68,7 @@ behind_node bytes key (suc (suc zero)) n below = refl
 behind_node bytes key (suc (suc (suc zero))) n below = refl
 behind_node bytes key (suc (suc (suc (suc h)))) n below = absurd (omega arith)
 
-pub behind_chain : (bytes : List ℕ) (key : ℤ) (h n : ℕ) → n ≢ 0 → 4 ≤ h → next_number bytes key h n ≡ next_at bytes (place_of n)
+pub behind_chain : (bytes : List ℕ) (key : ℤ) (h n : ℕ) → n ≢ 0 → 4 ≤ h → next_number bytes key h n ≡ next_at bytes (numbered_place n)
 behind_chain bytes key zero n some above = absurd (omega arith)
 behind_chain bytes key (suc zero) n some above = absurd (omega arith)
 behind_chain bytes key (suc (suc zero)) n some above = absurd (omega arith)
@@ -88,7 +88,7 @@ abbrev IsNodeSpot : ℕ → ℤ → ℕ → Type 0
 IsNodeSpot spot key hop = (hop ≤ 4) × (spot ≡ 2 * node key hop)
 
 abbrev IsChainSpot : ℕ → List ℕ → ℤ → ℕ → Type 0
-IsChainSpot spot bytes key hop = (k : ℕ) × (hop ≡ suc k) × (4 ≤ k) × (spot ≡ place_of (number_of bytes key k) + 192)
+IsChainSpot spot bytes key hop = (k : ℕ) × (hop ≡ suc k) × (4 ≤ k) × (spot ≡ numbered_place (number_of bytes key k) + 192)
 
 spot_is : (bytes : List ℕ) (key : ℤ) (hop : ℕ) → IsNodeSpot (spot_of bytes key hop) key hop ⊎ IsChainSpot (spot_of bytes key hop) bytes key hop
 spot_is bytes key zero = inl (omega arith, refl)
@@ -108,11 +108,11 @@ pub record Appends (old new : List ℕ) (ps : List Pair) (q : Pair) (hop number 
   -- what stands before the new bucket stays but for the spot
   pub stays : (p n : ℕ) → p + n ≤ length old → (p + n ≤ spot_of old q.key hop) ⊎ (spot_of old q.key hop + 2 ≤ p) → SameBytes new old p p n
   pub named : u16_at new (spot_of old q.key hop) ≡ number
-  pub place : place_of number ≡ length old
+  pub place : numbered_place number ≡ length old
   pub longer : length new ≡ length old + 195
-  pub first : HoldsPairs new (place_of number) (q ∷ [])
-  pub next : next_at new (place_of number) ≡ 0
-  pub zeros : (x : ℕ) → 6 ≤ x → x < 192 → get_or new (place_of number + x) 0 ≡ 0
+  pub first : HoldsPairs new (numbered_place number) (q ∷ [])
+  pub next : next_at new (numbered_place number) ≡ 0
+  pub zeros : (x : ℕ) → 6 ≤ x → x < 192 → get_or new (numbered_place number + x) 0 ≡ 0
 
 u16_kept : (old new : List ℕ) (ps : List Pair) (q : Pair) (hop number p : ℕ) → Appends old new ps q hop number → p + 2 ≤ length old → (p + 2 ≤ spot_of old q.key hop) ⊎ (spot_of old q.key hop + 2 ≤ p) → u16_at new p ≡ u16_at old p
 u16_kept old new ps q hop number p a fits apart = u16_same new old p p (a.stays p 2 fits apart)
@@ -126,18 +126,18 @@ before_some old new ps q hop number k a h = λ z.
 
 -- next of a bucket that the path of a key comes to by old numbers stays, but for the last bucket of the path
 next_kept : (old new : List ℕ) (ps : List Pair) (q : Pair) (hop number : ℕ) → Appends old new ps q hop number → (key : ℤ) (h : ℕ) → number_of old key h ≢ 0 → (4 ≤ h → IsNew key q hop (suc h) → ⊥) →
-    next_at new (place_of (number_of old key h)) ≡ next_at old (place_of (number_of old key h))
+    next_at new (numbered_place (number_of old key h)) ≡ next_at old (numbered_place (number_of old key h))
 next_kept old new ps q hop number a key h some other =
     let n : ℕ = number_of old key h in
     let spot : ℕ = spot_of old q.key hop in
     let within : bucket_place n ≤ length old = (a.tree.each key h).within some in
-    u16_kept old new ps q hop number (place_of n + 192) a (omega arith)
+    u16_kept old new ps q hop number (numbered_place n + 192) a (omega arith)
     (⊎_elim
     (λ (at : IsNodeSpot spot q.key hop). let small : node q.key hop ≤ 340 = node_small q.key hop at.0 in let is : spot ≡ 2 * node q.key hop = at.1 in inr (omega (arith, small, is)))
     (λ (at : IsChainSpot spot old q.key hop).
     let k : ℕ = at.0 in
     let m : ℕ = number_of old q.key k in
-    let is : spot ≡ place_of m + 192 = at.3 in
+    let is : spot ≡ numbered_place m + 192 = at.3 in
     let last : hop ≡ suc k = at.1 in
     let there : m ≢ 0 = before_some old new ps q hop number k a (omega arith) in
     ⊎_elim
@@ -147,8 +147,8 @@ next_kept old new ps q hop number a key h some other =
     let deep : 4 ≤ h = rw same at.2 in
     absurd (other deep (ap suc same ∙ sym last, way_more key q.key h both.1 (chain_same key q.key h deep))))
     (λ (d : n ≢ m). ⊎_elim
-    (λ (x : place_of n + 192 + 2 ≤ place_of m + 192). inl (omega (arith, x, is)))
-    (λ (x : place_of m + 192 + 2 ≤ place_of n + 192). inr (omega (arith, x, is)))
+    (λ (x : numbered_place n + 192 + 2 ≤ numbered_place m + 192). inl (omega (arith, x, is)))
+    (λ (x : numbered_place m + 192 + 2 ≤ numbered_place n + 192). inr (omega (arith, x, is)))
     (apart_places n m 192 192 2 2 some there d (omega arith) (omega arith)))
     (same_or n m))
     (spot_is old q.key hop))
@@ -170,7 +170,7 @@ node_kept old new ps q hop number a key h low other =
     (λ (less : node q.key hop < node key h). inr (omega (arith, is, less)))
     (order (node key h) (node q.key hop)))
     (same_or (node key h) (node q.key hop)))
-    (λ (at : IsChainSpot spot old q.key hop). let is : spot ≡ place_of (number_of old q.key at.0) + 192 = at.3 in inl (omega (arith, small, is)))
+    (λ (at : IsChainSpot spot old q.key hop). let is : spot ≡ numbered_place (number_of old q.key at.0) + 192 = at.3 in inl (omega (arith, small, is)))
     (spot_is old q.key hop))
 
 -- one hop on
@@ -236,35 +236,35 @@ pub old_is_other : (old new : List ℕ) (ps : List Pair) (q : Pair) (hop number 
 old_is_other old new ps q hop number a key h some is = some (number_same old key q.key h is.1 ∙ ap (number_of old q.key) is.0 ∙ a.none)
 
 -- the pairs of other buckets stay
-pub bucket_kept : (old new : List ℕ) (ps : List Pair) (q : Pair) (hop number : ℕ) → Appends old new ps q hop number → (key : ℤ) (h : ℕ) → number_of old key h ≢ 0 → KeepsBucket old new (place_of (number_of old key h))
+pub bucket_kept : (old new : List ℕ) (ps : List Pair) (q : Pair) (hop number : ℕ) → Appends old new ps q hop number → (key : ℤ) (h : ℕ) → number_of old key h ≢ 0 → KeepsBucket old new (numbered_place (number_of old key h))
 bucket_kept old new ps q hop number a key h some =
     let n : ℕ = number_of old key h in
     let spot : ℕ = spot_of old q.key hop in
     let within : bucket_place n ≤ length old = (a.tree.each key h).within some in
     -- the spot lies outside of the first 192 bytes and the last byte of the bucket
-    let apart : (x k : ℕ) → (x + k ≤ 192) ⊎ (194 ≤ x) → x + k ≤ 195 → (place_of n + x + k ≤ spot) ⊎ (spot + 2 ≤ place_of n + x) = λ x k inside fits. ⊎_elim
+    let apart : (x k : ℕ) → (x + k ≤ 192) ⊎ (194 ≤ x) → x + k ≤ 195 → (numbered_place n + x + k ≤ spot) ⊎ (spot + 2 ≤ numbered_place n + x) = λ x k inside fits. ⊎_elim
     (λ (at : IsNodeSpot spot q.key hop). let small : node q.key hop ≤ 340 = node_small q.key hop at.0 in let is : spot ≡ 2 * node q.key hop = at.1 in inr (omega (arith, small, is)))
     (λ (at : IsChainSpot spot old q.key hop).
     let m : ℕ = number_of old q.key at.0 in
-    let is : spot ≡ place_of m + 192 = at.3 in
+    let is : spot ≡ numbered_place m + 192 = at.3 in
     let last : hop ≡ suc at.0 = at.1 in
     let there : m ≢ 0 = before_some old new ps q hop number at.0 a (omega arith) in
     ⊎_elim
     (λ (e : n ≡ m). ⊎_elim (λ (i : x + k ≤ 192). inl (omega (arith, is, e, i))) (λ (i : 194 ≤ x). inr (omega (arith, is, e, i))) inside)
     (λ (d : n ≢ m). ⊎_elim
-    (λ (y : place_of n + x + k ≤ place_of m + 192). inl (omega (arith, y, is)))
-    (λ (y : place_of m + 192 + 2 ≤ place_of n + x). inr (omega (arith, y, is)))
+    (λ (y : numbered_place n + x + k ≤ numbered_place m + 192). inl (omega (arith, y, is)))
+    (λ (y : numbered_place m + 192 + 2 ≤ numbered_place n + x). inr (omega (arith, y, is)))
     (apart_places n m x 192 k 2 some there d fits (omega arith)))
     (same_or n m))
     (spot_is old q.key hop) in
     record {
-      slot = λ i s. let e : place_of n + (6 * i + 4) ≡ place_of n + 6 * i + 4 = omega arith in
-          u16_same new old (place_of n + 6 * i + 4) (place_of n + 6 * i + 4) (rw e at (a.stays (place_of n + (6 * i + 4)) 2 (omega arith) (apart (6 * i + 4) 2 (inl (omega arith)) (omega arith))));
-      key = λ i s. i32_same new old (place_of n + 6 * i) (place_of n + 6 * i) (a.stays (place_of n + 6 * i) 4 (omega arith) (apart (6 * i) 4 (inl (omega arith)) (omega arith)));
-      last = let e : place_of n + 194 + 0 ≡ place_of n + 194 = omega arith in
-          subst (λ (j : ℕ). get_or new j 0 ≡ get_or old j 0) e (a.stays (place_of n + 194) 1 (omega arith) (apart 194 1 (inr (omega arith)) (omega arith)) 0 (omega arith));
-      rest = λ x h. let e : place_of n + x + 0 ≡ place_of n + x = omega arith in
-          subst (λ (j : ℕ). get_or new j 0 ≡ get_or old j 0) e (a.stays (place_of n + x) 1 (omega arith) (apart x 1 (inl (omega arith)) (omega arith)) 0 (omega arith));
+      slot = λ i s. let e : numbered_place n + (6 * i + 4) ≡ numbered_place n + 6 * i + 4 = omega arith in
+          u16_same new old (numbered_place n + 6 * i + 4) (numbered_place n + 6 * i + 4) (rw e at (a.stays (numbered_place n + (6 * i + 4)) 2 (omega arith) (apart (6 * i + 4) 2 (inl (omega arith)) (omega arith))));
+      key = λ i s. i32_same new old (numbered_place n + 6 * i) (numbered_place n + 6 * i) (a.stays (numbered_place n + 6 * i) 4 (omega arith) (apart (6 * i) 4 (inl (omega arith)) (omega arith)));
+      last = let e : numbered_place n + 194 + 0 ≡ numbered_place n + 194 = omega arith in
+          subst (λ (j : ℕ). get_or new j 0 ≡ get_or old j 0) e (a.stays (numbered_place n + 194) 1 (omega arith) (apart 194 1 (inr (omega arith)) (omega arith)) 0 (omega arith));
+      rest = λ x h. let e : numbered_place n + x + 0 ≡ numbered_place n + x = omega arith in
+          subst (λ (j : ℕ). get_or new j 0 ≡ get_or old j 0) e (a.stays (numbered_place n + x) 1 (omega arith) (apart x 1 (inl (omega arith)) (omega arith)) 0 (omega arith));
     }
 
 pub adds_bucket : (old new : List ℕ) (ps : List Pair) (q : Pair) (hop number : ℕ) → Appends old new ps q hop number → AddsBucket old new ps q hop number
@@ -284,7 +284,7 @@ adds_bucket old new ps q hop number a =
       here = a.first;
     }
   where
-    one_more : (n len : ℕ) → n ≢ 0 → place_of n ≡ len → (all : ℕ) → all ≡ len + 195 → bucket_place n ≤ all
+    one_more : (n len : ℕ) → n ≢ 0 → numbered_place n ≡ len → (all : ℕ) → all ≡ len + 195 → bucket_place n ≤ all
     one_more n len some e all is = omega arith
 
 pub bucket_put : (old new : List ℕ) (ps : List Pair) (q : Pair) (hop number : ℕ) → Appends old new ps q hop number → length ps < 32768 → IsPathEnd ps q.key hop → IsGrown old new ps (q ∷ [])
@@ -316,7 +316,7 @@ bucket_put old new ps q hop number a few end =
     mark_kept =
         let at_mark : (682 + 1 ≤ spot_of old q.key hop) ⊎ (spot_of old q.key hop + 2 ≤ 682) = ⊎_elim
         (λ (at : IsNodeSpot (spot_of old q.key hop) q.key hop). let small : node q.key hop ≤ 340 = node_small q.key hop at.0 in let is : spot_of old q.key hop ≡ 2 * node q.key hop = at.1 in inr (omega (arith, small, is)))
-        (λ (at : IsChainSpot (spot_of old q.key hop) old q.key hop). let is : spot_of old q.key hop ≡ place_of (number_of old q.key at.0) + 192 = at.3 in inl (omega (arith, is)))
+        (λ (at : IsChainSpot (spot_of old q.key hop) old q.key hop). let is : spot_of old q.key hop ≡ numbered_place (number_of old q.key at.0) + 192 = at.3 in inl (omega (arith, is)))
         (spot_is old q.key hop) in
         let size : length old ≡ bucket_place (buckets (pair_keys ps)) = a.tree.size in
         a.stays 682 1 (omega (arith, size)) at_mark 0 (omega arith) ∙ a.tree.mark
@@ -324,7 +324,7 @@ bucket_put old new ps q hop number a few end =
 -- ---- bytes
 
 pub appends : (old w two_ : List ℕ) (ps : List Pair) (q : Pair) (hop number : ℕ) → IsTree old ps → SlotsRise ps → IsPathEnd ps q.key hop → number_of old q.key hop ≡ 0 → IsFirstBucket w q → spot_of old q.key hop + 3 ≤ length old →
-    length two_ ≡ 2 → u16_at two_ 0 ≡ number → number ≢ 0 → place_of number ≡ length old → Appends old (put_at (old ++ w) (spot_of old q.key hop) two_) ps q hop number
+    length two_ ≡ 2 → u16_at two_ 0 ≡ number → number ≢ 0 → numbered_place number ≡ length old → Appends old (put_at (old ++ w) (spot_of old q.key hop) two_) ps q hop number
 appends old w two_ ps q hop number tree rises end none is fits long two_is some place =
     let spot : ℕ = spot_of old q.key hop in
     let mid : List ℕ = old ++ w in

@@ -1,6 +1,6 @@
 -- A pair that is written behind those of a bucket.
 use Rattle.std.proofs.lemmas.Grind.{common_steps}
-use Rattle.std.proofs.Common.{◌≡◌, ◌≢◌, ◌≤◌, ◌<◌, ◌+◌, ◌*◌, ℕ, zero, suc, List, [], ◌∷◌, ◌++◌, length, get_or, refl, arith, ap, ◌∙◌, sym, ◌⊎◌, inl, inr, ⊎_elim, subst, length-append}
+use Rattle.std.proofs.Common.{◌≡◌, ◌≢◌, ◌≤◌, ◌<◌, ◌+◌, ◌*◌, ℕ, List, [], ◌∷◌, ◌++◌, length, arith, ap, ◌∙◌, sym, ◌⊎◌, inl, inr, ⊎_elim, subst, length-append}
 use Rattle.std.proofs.lemmas.List.{get_or_append_left}
 use Rattle.std.proofs.Math.Seq.{get_or-append_seam}
 use Rattle.afl_base.specs.Fields.{i32_at, put_at, u16_at}
@@ -8,12 +8,11 @@ use Rattle.afl_base.proofs.FieldLaws.{length-put_at}
 use Rattle.db_model.specs.HashTree.{buckets}
 use Rattle.index_tree.specs.Buckets.{IsPairBytes}
 use Rattle.index_tree.specs.Ends.{IsPathEnd}
-use Rattle.index_tree.specs.Loads.{opened_bucket}
-use Rattle.index_tree.specs.Pairs.{Pair, goes, pair_keys, no_pair, reaching}
+use Rattle.index_tree.specs.Pairs.{Pair, goes, pair_keys, reaching}
 use Rattle.index_tree.specs.Places.{IsGrown, SlotsRise}
-use Rattle.index_tree.specs.TreeFile.{HoldsPairs, IsTree, bucket_place, key_at, next_at, number_of, place_of, slot_at}
+use Rattle.index_tree.specs.TreeFile.{HoldsPairs, IsTree, bucket_place, key_at, next_at, number_of, numbered_place, slot_at}
 use Rattle.index_tree.proofs.Added.{AddsPair, KeepsBucket, pair_added}
-use Rattle.index_tree.proofs.Counted.{buckets_more}
+use Rattle.index_tree.proofs.Counted.{buckets_more, opened_some as opened_none}
 use Rattle.index_tree.proofs.Frames.{i32_same, put_here, u16_same}
 use Rattle.index_tree.proofs.Shared.{order}
 use Rattle.index_tree.proofs.Spots.{apart_places, byte_stays, i32_stays, numbers_stay, u16_stays}
@@ -39,30 +38,30 @@ pub holds_put : (old w : List ℕ) (place : ℕ) (rest : List Pair) (q : Pair) �
 holds_put old w place rest q holds room is fits = grind (arith, common_steps, get_or-append_seam, slot_here, slot_other, get_or_append_left, order, key_here, key_other, byte_stays)
 
 -- another bucket keeps its pairs
-bucket_apart : (old w : List ℕ) (n m pair : ℕ) → n ≢ 0 → m ≢ 0 → n ≢ m → length w ≡ 6 → pair < 32 → bucket_place m ≤ length old → KeepsBucket old (put_at old (place_of m + 6 * pair) w) (place_of n)
+bucket_apart : (old w : List ℕ) (n m pair : ℕ) → n ≢ 0 → m ≢ 0 → n ≢ m → length w ≡ 6 → pair < 32 → bucket_place m ≤ length old → KeepsBucket old (put_at old (numbered_place m + 6 * pair) w) (numbered_place n)
 bucket_apart old w n m pair some more other long short fits = record {
-  slot = λ i h. u16_stays old w (place_of m + 6 * pair) (place_of n + 6 * i + 4) (omega arith)
-      (⊎_elim (λ (a : place_of n + (6 * i + 4) + 2 ≤ place_of m + 6 * pair). inl (omega arith)) (λ (b : place_of m + 6 * pair + 6 ≤ place_of n + (6 * i + 4)). inr (omega arith)) (apart_places n m (6 * i + 4) (6 * pair) 2 6 some more other (omega arith) (omega arith)));
-  key = λ i h. i32_stays old w (place_of m + 6 * pair) (place_of n + 6 * i) (omega arith)
-      (⊎_elim (λ (a : place_of n + 6 * i + 4 ≤ place_of m + 6 * pair). inl (omega arith)) (λ (b : place_of m + 6 * pair + 6 ≤ place_of n + 6 * i). inr (omega arith)) (apart_places n m (6 * i) (6 * pair) 4 6 some more other (omega arith) (omega arith)));
-  last = byte_stays old w (place_of m + 6 * pair) (place_of n + 194) (omega arith)
-      (⊎_elim (λ (a : place_of n + 194 + 1 ≤ place_of m + 6 * pair). inl (omega arith)) (λ (b : place_of m + 6 * pair + 6 ≤ place_of n + 194). inr (omega arith)) (apart_places n m 194 (6 * pair) 1 6 some more other (omega arith) (omega arith)));
-  rest = λ x h. byte_stays old w (place_of m + 6 * pair) (place_of n + x) (omega arith)
-      (⊎_elim (λ (a : place_of n + x + 1 ≤ place_of m + 6 * pair). inl (omega arith)) (λ (b : place_of m + 6 * pair + 6 ≤ place_of n + x). inr (omega arith)) (apart_places n m x (6 * pair) 1 6 some more other (omega arith) (omega arith)));
+  slot = λ i h. u16_stays old w (numbered_place m + 6 * pair) (numbered_place n + 6 * i + 4) (omega arith)
+      (⊎_elim (λ (a : numbered_place n + (6 * i + 4) + 2 ≤ numbered_place m + 6 * pair). inl (omega arith)) (λ (b : numbered_place m + 6 * pair + 6 ≤ numbered_place n + (6 * i + 4)). inr (omega arith)) (apart_places n m (6 * i + 4) (6 * pair) 2 6 some more other (omega arith) (omega arith)));
+  key = λ i h. i32_stays old w (numbered_place m + 6 * pair) (numbered_place n + 6 * i) (omega arith)
+      (⊎_elim (λ (a : numbered_place n + 6 * i + 4 ≤ numbered_place m + 6 * pair). inl (omega arith)) (λ (b : numbered_place m + 6 * pair + 6 ≤ numbered_place n + 6 * i). inr (omega arith)) (apart_places n m (6 * i) (6 * pair) 4 6 some more other (omega arith) (omega arith)));
+  last = byte_stays old w (numbered_place m + 6 * pair) (numbered_place n + 194) (omega arith)
+      (⊎_elim (λ (a : numbered_place n + 194 + 1 ≤ numbered_place m + 6 * pair). inl (omega arith)) (λ (b : numbered_place m + 6 * pair + 6 ≤ numbered_place n + 194). inr (omega arith)) (apart_places n m 194 (6 * pair) 1 6 some more other (omega arith) (omega arith)));
+  rest = λ x h. byte_stays old w (numbered_place m + 6 * pair) (numbered_place n + x) (omega arith)
+      (⊎_elim (λ (a : numbered_place n + x + 1 ≤ numbered_place m + 6 * pair). inl (omega arith)) (λ (b : numbered_place m + 6 * pair + 6 ≤ numbered_place n + x). inr (omega arith)) (apart_places n m x (6 * pair) 1 6 some more other (omega arith) (omega arith)));
 }
 
-next_stays : (old w : List ℕ) (n m pair : ℕ) → n ≢ 0 → m ≢ 0 → length w ≡ 6 → pair < 32 → bucket_place m ≤ length old → next_at (put_at old (place_of m + 6 * pair) w) (place_of n) ≡ next_at old (place_of n)
+next_stays : (old w : List ℕ) (n m pair : ℕ) → n ≢ 0 → m ≢ 0 → length w ≡ 6 → pair < 32 → bucket_place m ≤ length old → next_at (put_at old (numbered_place m + 6 * pair) w) (numbered_place n) ≡ next_at old (numbered_place n)
 next_stays old w n m pair some more long short fits = grind (arith, common_steps, u16_stays, order)
 
 pub adds_pair : (old w : List ℕ) (ps : List Pair) (q : Pair) (hop : ℕ) → IsTree old ps → IsPathEnd ps q.key hop → number_of old q.key hop ≢ 0 → IsPairBytes w q →
-    AddsPair old (put_at old (place_of (number_of old q.key hop) + 6 * length (reaching (goes q.key) hop ps)) w) ps q hop
+    AddsPair old (put_at old (numbered_place (number_of old q.key hop) + 6 * length (reaching (goes q.key) hop ps)) w) ps q hop
 adds_pair old w ps q hop tree end some is =
     let m : ℕ = number_of old q.key hop in
     let rest : List Pair = reaching (goes q.key) hop ps in
     let long : length w ≡ 6 = is.long in
     let short : length rest < 32 = end.room in
     let fits : bucket_place m ≤ length old = (tree.each q.key hop).within some in
-    let at : ℕ = place_of m + 6 * length rest in
+    let at : ℕ = numbered_place m + 6 * length rest in
     let heads : (p : ℕ) → p + 2 ≤ 682 → u16_at (put_at old at w) p ≡ u16_at old p = λ p h. u16_stays old w at p (omega arith) (inl (omega arith)) in
     record {
       full = end.full;
@@ -71,19 +70,15 @@ adds_pair old w ps q hop tree end some is =
       numbers = numbers_stay old (put_at old at w) heads (λ n k. next_stays old w n m (length rest) k some long short fits);
       size = length-put_at old w at (omega arith);
       others = λ n k other. bucket_apart old w n m (length rest) k some other long short fits;
-      here = holds_put old w (place_of m) rest q ((tree.each q.key hop).holds some) short is (omega arith);
+      here = holds_put old w (numbered_place m) rest q ((tree.each q.key hop).holds some) short is (omega arith);
     }
 
-opened_none : (n : ℕ) → 0 < n → opened_bucket n ≡ 0
-opened_none zero h = absurd (omega arith)
-opened_none (suc n) h = refl
-
 pub pair_put : (old w : List ℕ) (ps : List Pair) (q : Pair) (hop : ℕ) → IsTree old ps → SlotsRise ps → length ps < 32768 → IsPathEnd ps q.key hop → number_of old q.key hop ≢ 0 → IsPairBytes w q →
-    IsGrown old (put_at old (place_of (number_of old q.key hop) + 6 * length (reaching (goes q.key) hop ps)) w) ps (q ∷ [])
+    IsGrown old (put_at old (numbered_place (number_of old q.key hop) + 6 * length (reaching (goes q.key) hop ps)) w) ps (q ∷ [])
 pair_put old w ps q hop tree rises few end some is =
     let m : ℕ = number_of old q.key hop in
     let rest : List Pair = reaching (goes q.key) hop ps in
-    let at : ℕ = place_of m + 6 * length rest in
+    let at : ℕ = numbered_place m + 6 * length rest in
     let new : List ℕ = put_at old at w in
     let long : length w ≡ 6 = is.long in
     let short : length rest < 32 = end.room in

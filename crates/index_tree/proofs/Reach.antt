@@ -3,12 +3,10 @@ use Rattle.std.proofs.Common.{◌≡◌, ◌≤◌, ◌<◌, ◌+◌, ◌-◌, �
 use Rattle.std.specs.List.{filter}
 use Rattle.std.proofs.lemmas.List.{drop-append-le, drop_all, length-drop}
 use Rattle.std.proofs.lemmas.List.Elements.{filter-append}
+use Rattle.db_model.proofs.Standing.{false_true as no_truth}
 use Rattle.index_tree.specs.Pairs.{reaching, sifted}
 use Rattle.index_tree.specs.Places.{IsPlace, ahead_of_place}
 use Rattle.padded.proofs.Facts.{filter_few}
-
-no_truth : false ≡ true → ⊥
-no_truth e = cc
 
 weaker_step : {P : Type 0} (mine test : P → Bool) (p : P) (xs ys : List P) (a b : Bool) → filter mine xs ≡ ys → mine p ≡ a → test p ≡ b → (a ≡ true → b ≡ true) → filter mine (cond b (p ∷ xs) xs) ≡ cond a (p ∷ ys) ys
 weaker_step mine test p xs ys true true e m t w = rw m (ap (λ zs. p ∷ zs) e)

@@ -10,7 +10,7 @@ use Rattle.db_model.specs.HashTree.{node}
 use Rattle.index_tree.specs.Pairs.{Pair, goes, no_pair, pair_of, pairs_of, reaching, sifted}
 use Rattle.index_tree.specs.Places.{SlotsRise}
 use Rattle.index_tree.specs.Rules.{MeetsRules, bucket_count, slot_on}
-use Rattle.index_tree.specs.TreeFile.{HoldsPairs, IsBucket, number_of, place_of, slot_at}
+use Rattle.index_tree.specs.TreeFile.{HoldsPairs, IsBucket, number_of, numbered_place, slot_at}
 use Rattle.index_tree.proofs.Added.{number_same, zero_or}
 use Rattle.index_tree.proofs.Filters.{In, Parts, drop_first, filter_commutes, filter_in, in_filter, in_pairs, in_some, pairs_in, rises_map, rises_same, some_in, split_parts}
 use Rattle.index_tree.proofs.Shared.{Same, goes_self, order, rises_filter, same_way}
@@ -179,7 +179,7 @@ module _ (bytes : List ℕ) (key : ℕ → ℤ) (slots : ℕ) (r : MeetsRules by
       let small = (in_ps p (in_S k h p i)).0 in
       let is_key = key_is p (in_S k h p i) in
       let same : number_of bytes k h ≡ number_of bytes (key p.slot) (r.hop p.slot) = number_same bytes k p.key h (way k h p i) ∙ ap (λ (z : ℤ). number_of bytes z h) is_key ∙ ap (number_of bytes (key p.slot)) (sym e) in
-      (rw same (r.there p.slot small), ap (λ (n : ℕ). slot_at bytes (place_of n) (r.pair p.slot)) same ∙ r.slot p.slot small)
+      (rw same (r.there p.slot small), ap (λ (n : ℕ). slot_at bytes (numbered_place n) (r.pair p.slot)) same ∙ r.slot p.slot small)
 
   -- the slot that stands in a pair of a bucket of a path
   its_slot : (k : ℤ) (h i : ℕ) → number_of bytes k h ≢ 0 → i < 32 → slot_on bytes k h i ≢ 0 →
@@ -262,7 +262,7 @@ module _ (bytes : List ℕ) (key : ℕ → ℤ) (slots : ℕ) (r : MeetsRules by
       let one = slot_there k h p i at in
       let its_key : q.key ≡ key q.slot = key_is q (in_S k h q j) in
       let same : number_of bytes k h ≡ number_of bytes (key q.slot) h = number_same bytes k q.key h (way k h q j) ∙ ap (λ (z : ℤ). number_of bytes z h) its_key in
-      let first : slot_on bytes (key q.slot) h (r.pair p.slot) ≡ p.slot + 1 = ap (λ (n : ℕ). slot_at bytes (place_of n) (r.pair p.slot)) (sym same) ∙ one.1 in
+      let first : slot_on bytes (key q.slot) h (r.pair p.slot) ≡ p.slot + 1 = ap (λ (n : ℕ). slot_at bytes (numbered_place n) (r.pair p.slot)) (sym same) ∙ one.1 in
       let second : slot_on bytes (key q.slot) (r.hop q.slot) (r.pair q.slot) ≡ q.slot + 1 = r.slot q.slot small in
       let up = r.rise (key q.slot) h (r.hop q.slot) (r.pair p.slot) (r.pair q.slot) (inl deep) (r.short p.slot small_p) (r.short q.slot small) (r.there q.slot small) (λ z. omega (arith, z, first)) (λ z. omega (arith, z, second)) in
       omega (arith, up, first, second)
@@ -320,7 +320,7 @@ module _ (bytes : List ℕ) (key : ℕ → ℤ) (slots : ℕ) (r : MeetsRules by
 
   -- ---- each bucket
 
-  holds : (k : ℤ) (h : ℕ) → number_of bytes k h ≢ 0 → HoldsPairs bytes (place_of (number_of bytes k h)) (reaching (goes k) h ps)
+  holds : (k : ℤ) (h : ℕ) → number_of bytes k h ≢ 0 → HoldsPairs bytes (numbered_place (number_of bytes k h)) (reaching (goes k) h ps)
   unfolding held entry
   holds k h some =
       let front = filled k h some in

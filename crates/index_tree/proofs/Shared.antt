@@ -10,7 +10,7 @@ use Rattle.index_tree.proofs.Reach.{reach-append}
 abbrev pub Same : ℤ → ℤ → ℕ → Type 0
 Same a b hop = (p : Pair) → goes a hop p ≡ goes b hop p
 
-eqb-eq : (m n : ℕ) → nat_eq m n ≡ true → m ≡ n
+pub eqb-eq : (m n : ℕ) → nat_eq m n ≡ true → m ≡ n
 eqb-eq m n e = grind arith
 
 -- a pair that goes both ways

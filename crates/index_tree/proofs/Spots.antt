@@ -4,7 +4,7 @@ use Rattle.std.proofs.Common.{◌≡◌, ◌≢◌, ◌≤◌, ◌<◌, ◌+◌,
 use Rattle.std.specs.Prelude.{slice_index}
 use Rattle.afl_base.specs.Fields.{i32_at, put_at, u16_at}
 use Rattle.db_model.specs.HashTree.{digit, node}
-use Rattle.index_tree.specs.TreeFile.{next_number, next_at, number_of, place_of}
+use Rattle.index_tree.specs.TreeFile.{next_number, next_at, number_of, numbered_place}
 use Rattle.index_tree.proofs.Counted.{digit_small}
 use Rattle.index_tree.proofs.Frames.{i32_same, put_outside, u16_same}
 use Rattle.index_tree.proofs.Shared.{Same, order}
@@ -49,7 +49,7 @@ chain_same a b (suc (suc (suc (suc i)))) h = λ p. refl
 
 -- ---- buckets
 
-pub apart_places : (n m x y k l : ℕ) → n ≢ 0 → m ≢ 0 → n ≢ m → x + k ≤ 195 → y + l ≤ 195 → (place_of n + x + k ≤ place_of m + y) ⊎ (place_of m + y + l ≤ place_of n + x)
+pub apart_places : (n m x y k l : ℕ) → n ≢ 0 → m ≢ 0 → n ≢ m → x + k ≤ 195 → y + l ≤ 195 → (numbered_place n + x + k ≤ numbered_place m + y) ⊎ (numbered_place m + y + l ≤ numbered_place n + x)
 apart_places n m x y k l some more other a b = grind (arith, common_steps, order)
 
 -- ---- fields that stay
@@ -66,7 +66,7 @@ byte_stays xs w at p fits apart = let e : p ≡ p + 0 = omega arith in subst (λ
 -- ---- numbers
 
 -- the numbers behind a bucket stay
-pub behind_stays : (old new : List ℕ) (key : ℤ) (h n : ℕ) → ((p : ℕ) → p + 2 ≤ 682 → u16_at new p ≡ u16_at old p) → (n ≢ 0 → next_at new (place_of n) ≡ next_at old (place_of n)) → next_number new key h n ≡ next_number old key h n
+pub behind_stays : (old new : List ℕ) (key : ℤ) (h n : ℕ) → ((p : ℕ) → p + 2 ≤ 682 → u16_at new p ≡ u16_at old p) → (n ≢ 0 → next_at new (numbered_place n) ≡ next_at old (numbered_place n)) → next_number new key h n ≡ next_number old key h n
 behind_stays old new key zero n heads next = let small = node_small key 1 (omega arith) in heads (2 * node key 1) (omega arith)
 behind_stays old new key (suc zero) n heads next = let small = node_small key 2 (omega arith) in heads (2 * node key 2) (omega arith)
 behind_stays old new key (suc (suc zero)) n heads next = let small = node_small key 3 (omega arith) in heads (2 * node key 3) (omega arith)
@@ -74,6 +74,6 @@ behind_stays old new key (suc (suc (suc zero))) n heads next = let small = node_
 behind_stays old new key (suc (suc (suc (suc h)))) zero heads next = refl
 behind_stays old new key (suc (suc (suc (suc h)))) (suc b) heads next = let e : suc b - 1 ≡ b = omega arith in rw e at (next (λ z. omega arith))
 
-pub numbers_stay : (old new : List ℕ) → ((p : ℕ) → p + 2 ≤ 682 → u16_at new p ≡ u16_at old p) → ((n : ℕ) → n ≢ 0 → next_at new (place_of n) ≡ next_at old (place_of n)) → (key : ℤ) (h : ℕ) → number_of new key h ≡ number_of old key h
+pub numbers_stay : (old new : List ℕ) → ((p : ℕ) → p + 2 ≤ 682 → u16_at new p ≡ u16_at old p) → ((n : ℕ) → n ≢ 0 → next_at new (numbered_place n) ≡ next_at old (numbered_place n)) → (key : ℤ) (h : ℕ) → number_of new key h ≡ number_of old key h
 numbers_stay old new heads next key zero = heads 0 (omega arith)
 numbers_stay old new heads next key (suc h) = ap (next_number new key h) (numbers_stay old new heads next key h) ∙ behind_stays old new key h (number_of old key h) heads (next (number_of old key h))

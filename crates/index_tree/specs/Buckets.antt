@@ -2,10 +2,10 @@
 use Rattle.std.specs.Prelude.{ℕ, ◌≡◌, ◌≢◌, ◌+◌, ◌<◌, ◌≤◌, List, [], ◌∷◌, get_or, length}
 use Rattle.afl_base.specs.Fields.{i32_at, u16_at}
 use Rattle.index_tree.specs.Pairs.{Pair}
-use Rattle.index_tree.specs.TreeFile.{HoldsPairs, bucket_place, key_at, last_at, next_at, place_of, slot_at}
+use Rattle.index_tree.specs.TreeFile.{HoldsPairs, bucket_place, key_at, last_at, next_at, numbered_place, slot_at}
 
 -- this many pairs of a bucket's bytes stand before the first empty one
-pub record IsFilled (bytes : List ℕ) (pairs : ℕ) : Type 0 where
+pub record IsFilledBucket (bytes : List ℕ) (pairs : ℕ) : Type 0 where
   pub most : pairs ≤ 32
   pub some : (i : ℕ) → i < pairs → slot_at bytes 0 i ≢ 0
   pub empty : pairs < 32 → slot_at bytes 0 pairs ≡ 0
@@ -27,6 +27,6 @@ pub record IsFirstBucket (bytes : List ℕ) (q : Pair) : Type 0 where
 pub record HasPair (bytes : List ℕ) (number pair : ℕ) (q : Pair) : Type 0 where
   pub some : number ≢ 0
   pub within : bucket_place number ≤ length bytes
-  pub slot : slot_at bytes (place_of number) pair ≡ q.slot + 1
-  pub key : key_at bytes (place_of number) pair ≡ q.key
-  pub last : last_at bytes (place_of number) ≡ 1
+  pub slot : slot_at bytes (numbered_place number) pair ≡ q.slot + 1
+  pub key : key_at bytes (numbered_place number) pair ≡ q.key
+  pub last : last_at bytes (numbered_place number) ≡ 1

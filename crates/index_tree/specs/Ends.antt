@@ -2,7 +2,7 @@
 use Rattle.std.specs.Prelude.{ℕ, zero, suc, ℤ, ◌+◌, ◌*◌, ◌<◌, ◌≤◌, ◌==◌, List, length, nat_lt, if◌then◌else◌}
 use Rattle.db_model.specs.HashTree.{node}
 use Rattle.index_tree.specs.Pairs.{Pair, goes, reaching}
-use Rattle.index_tree.specs.TreeFile.{number_of, place_of, slot_at}
+use Rattle.index_tree.specs.TreeFile.{number_of, numbered_place, slot_at}
 
 -- the first bucket with room on the path of a key, which is one to come where nothing reaches it
 pub record IsPathEnd (ps : List Pair) (key : ℤ) (hop : ℕ) : Type 0 where
@@ -17,7 +17,7 @@ spot_behind key zero number = 2 * node key 1
 spot_behind key (suc zero) number = 2 * node key 2
 spot_behind key (suc (suc zero)) number = 2 * node key 3
 spot_behind key (suc (suc (suc zero))) number = 2 * node key 4
-spot_behind key (suc (suc (suc (suc chain)))) number = place_of number + 192
+spot_behind key (suc (suc (suc (suc chain)))) number = numbered_place number + 192
 
 -- where the number of the bucket at a hop stands
 abbrev pub spot_of : List ℕ → ℤ → ℕ → ℕ
@@ -33,7 +33,7 @@ filled_from (suc turns) bytes place pair = if slot_at bytes place pair == 0 then
 
 -- the pairs of the bucket with a number, none where that is 0
 abbrev pub filled_of : List ℕ → ℕ → ℕ
-filled_of bytes number = if number == 0 then 0 else filled_from 32 bytes (place_of number) 0
+filled_of bytes number = if number == 0 then 0 else filled_from 32 bytes (numbered_place number) 0
 
 -- the first hop of a key's path, of this many from one on, at which no bucket stands or one with room
 abbrev pub end_from : ℕ → List ℕ → ℤ → ℕ → ℕ

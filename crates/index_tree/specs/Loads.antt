@@ -12,7 +12,7 @@ load_of (suc (suc (suc zero))) n = min 32 n
 load_of (suc (suc (suc (suc more)))) n = n
 
 -- the numbers are those of the 341 nodes of the tree of these pairs
-pub record Counts (loads : List ℕ) (ps : List Pair) : Type 0 where
+pub record CountsPairs (loads : List ℕ) (ps : List Pair) : Type 0 where
   pub long : length loads ≡ 341
   pub each : (key : ℤ) (level : ℕ) → level ≤ 4
       → get_or loads (node key level) 0 ≡ load_of level (length (reaching (goes key) level ps))
@@ -30,7 +30,7 @@ opened_bucket (suc n) = 0
 
 -- one key more, and whether it opens a bucket
 pub record Loads (old new : List ℕ) (key : ℤ) (opens : ℕ) : Type 0 where
-  pub counts : (ps : List Pair) (slot : ℕ) → Counts old ps
-      → Counts new (ps ++ record { key = key; slot = slot } ∷ [])
-  pub buckets : (ps : List Pair) (slot : ℕ) → Counts old ps
+  pub counts : (ps : List Pair) (slot : ℕ) → CountsPairs old ps
+      → CountsPairs new (ps ++ record { key = key; slot = slot } ∷ [])
+  pub buckets : (ps : List Pair) (slot : ℕ) → CountsPairs old ps
       → buckets (pair_keys (ps ++ record { key = key; slot = slot } ∷ [])) ≡ buckets (pair_keys ps) + opens

@@ -14,8 +14,8 @@ abbrev pub bucket_place : ℕ → ℕ
 bucket_place bucket = 683 + 195 * bucket
 
 -- where the bucket of a number that is not 0 begins
-abbrev pub place_of : ℕ → ℕ
-place_of number = bucket_place (number - 1)
+abbrev pub numbered_place : ℕ → ℕ
+numbered_place number = bucket_place (number - 1)
 
 -- the pairs of a bucket that begins at a place: a key, and slot + 1, 0 for an empty pair
 abbrev pub key_at : List ℕ → ℕ → ℕ → ℤ
@@ -65,7 +65,7 @@ pub record IsBucket (bytes : List ℕ) (number : ℕ) (rest : List Pair) : Type 
   pub none : number ≡ 0 → rest ≡ []
   pub some : number ≢ 0 → 0 < length rest
   pub within : number ≢ 0 → bucket_place number ≤ length bytes
-  pub holds : number ≢ 0 → HoldsPairs bytes (place_of number) rest
+  pub holds : number ≢ 0 → HoldsPairs bytes (numbered_place number) rest
 
 -- the file is the hash tree of these pairs
 pub record IsTree (bytes : List ℕ) (ps : List Pair) : Type 0 where
@@ -75,7 +75,7 @@ pub record IsTree (bytes : List ℕ) (ps : List Pair) : Type 0 where
   pub each : (key : ℤ) (hop : ℕ)
       → IsBucket bytes (number_of bytes key hop) (reaching (goes key) hop ps)
   pub upper : (key : ℤ) (hop : ℕ) → hop < 4 → number_of bytes key hop ≢ 0
-      → next_at bytes (place_of (number_of bytes key hop)) ≡ 0
+      → next_at bytes (numbered_place (number_of bytes key hop)) ≡ 0
 
 -- no pair of these bytes names a slot after this many
 abbrev pub NamesOnly : ℕ → List ℕ → Type 0

@@ -3,7 +3,7 @@ use Rattle.std.specs.Prelude.{ℕ, zero, suc, ℤ, ◌+◌, ◌-◌, List, [], �
 use Rattle.std.specs.List.{range_with_len}
 use Rattle.index_tree.specs.Ends.{filled_of}
 use Rattle.index_tree.specs.Pairs.{Pair}
-use Rattle.index_tree.specs.TreeFile.{IsTree, key_at, number_of, place_of, slot_at}
+use Rattle.index_tree.specs.TreeFile.{IsTree, key_at, number_of, numbered_place, slot_at}
 
 -- the pairs of keys whose slots follow one another, from a slot on
 abbrev pub numbered : ℕ → List ℤ → List Pair
@@ -22,7 +22,7 @@ pair_in bytes place pair = record { key = key_at bytes place pair; slot = slot_a
 
 -- the pairs of the bucket with a number
 abbrev pub pairs_in : List ℕ → ℕ → List Pair
-pairs_in bytes number = map (pair_in bytes (place_of number)) (range_with_len 0 (filled_of bytes number))
+pairs_in bytes number = map (pair_in bytes (numbered_place number)) (range_with_len 0 (filled_of bytes number))
 
 -- the pairs of the first so many buckets along the path of a key
 abbrev pub pairs_along : List ℕ → ℤ → ℕ → List Pair

@@ -79,8 +79,8 @@ evaluated [] values s = s
 evaluated (i ∷ is) values s = evaluated is values (stepped i values s)
 
 -- the steps from one place to another put an item on the stack, and change nothing below
-abbrev pub Puts : List Instruction → List Value → ℕ → ℕ → Item → Type 0
-Puts is values from next item = (s : List Item) → evaluated (drop from is) values s ≡ evaluated (drop next is) values (item ∷ s)
+abbrev pub PutsItem : List Instruction → List Value → ℕ → ℕ → Item → Type 0
+PutsItem is values from next item = (s : List Item) → evaluated (drop from is) values s ≡ evaluated (drop next is) values (item ∷ s)
 
 -- where there was no step, each tuple is selected
 abbrev pub verdict : List Item → Bool

@@ -5,7 +5,7 @@
 ghost use Rattle.std.specs.Prelude.{◌≡◌, ◌<◌, ◌≤◌, ◌+◌, IfSome, List, Some, ◌∷◌, length, slice_get};
 ghost use Rattle.db_model.specs.Item.{calculated};
 ghost use Rattle.lvm.specs.Evaluate as spec;
-ghost use Rattle.lvm.specs.Evaluate.{Number, Puts, Truth};
+ghost use Rattle.lvm.specs.Evaluate.{Number, PutsItem, Truth};
 ghost use Rattle.lvm.specs.Instruction.{arithmetic};
 ghost use Rattle.lvm.specs.Lent.{IsRead, item_of};
 
@@ -47,7 +47,7 @@ pub fn compared_from<V: Values>(
     requires readable { V.readable values.now }
     requires read { IsRead (V.values values.now) last.old }
     ensures value { IfSome result (λ c.
-        Puts instructions.now (V.values values.now) from c.next (Truth c.truth)) }
+        PutsItem instructions.now (V.values values.now) from c.next (Truth c.truth)) }
     ensures next { IfSome result (λ c. (from < c.next) × (c.next ≤ length instructions.now)) }
     ensures read { IsRead (V.values values.now) last.new }
 {
@@ -68,7 +68,7 @@ fn numbers_compared_from<V: Values>(
     requires readable { V.readable values.now }
     requires read { IsRead (V.values values.now) last.old }
     ensures value { IfSome result (λ c.
-        Puts instructions.now (V.values values.now) from c.next (Truth c.truth)) }
+        PutsItem instructions.now (V.values values.now) from c.next (Truth c.truth)) }
     ensures next { IfSome result (λ c. (from < c.next) × (c.next ≤ length instructions.now)) }
     ensures read { IsRead (V.values values.now) last.new }
 {
@@ -119,7 +119,7 @@ fn sum_from<V: Values>(
     requires readable { V.readable values.now }
     requires read { IsRead (V.values values.now) last.old }
     ensures value { IfSome result (λ c.
-        Puts instructions.now (V.values values.now) from c.next (Number (Some c.number))) }
+        PutsItem instructions.now (V.values values.now) from c.next (Number (Some c.number))) }
     ensures next { IfSome result (λ c. (from < c.next) × (c.next ≤ length instructions.now)) }
     ensures read { IsRead (V.values values.now) last.new }
 {
@@ -142,7 +142,7 @@ fn operands_compared_from<V: Values>(
 ) -> Option<Compared>
     requires readable { V.readable values.now }
     ensures value { IfSome result (λ c.
-        Puts instructions.now (V.values values.now) from c.next (Truth c.truth)) }
+        PutsItem instructions.now (V.values values.now) from c.next (Truth c.truth)) }
     ensures next { IfSome result (λ c. (from < c.next) × (c.next ≤ length instructions.now)) }
 {
     if instructions.len() < 3 || from > instructions.len() - 3 {
@@ -171,7 +171,7 @@ fn number_at<V: Values>(
     requires readable { V.readable values.now }
     requires read { IsRead (V.values values.now) last.old }
     ensures value { IfSome result (λ c.
-        Puts instructions.now (V.values values.now) at c.next (Number (Some c.number))) }
+        PutsItem instructions.now (V.values values.now) at c.next (Number (Some c.number))) }
     ensures next { IfSome result (λ c. c.next ≡ at + 1) }
     ensures read { IsRead (V.values values.now) last.new }
 {

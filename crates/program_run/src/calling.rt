@@ -3,9 +3,10 @@
 #![tactic(auto)]
 
 ghost use Rattle.std.specs.Prelude.{◌≡◌, ◌⊎◌, ◌↔◌, IfSome, IsTrue, None, Some};
-ghost use Rattle.antelope_run.specs.Promise.{IsRun, IsStatus, moment};
-ghost use Rattle.run_collect.specs.Collects.{BreaksOff, Collects, IsCollectStatus};
-ghost use Rattle.program_run.specs.Upkeep.{BreaksOffUpkeep, IsUpkeepStatus, Keeps, upkeep_of};
+ghost use Rattle.antelope_run.specs.Promise.{KeepsPromise, IsStatus};
+ghost use Rattle.run_model.specs.Moments.{moment};
+ghost use Rattle.run_collect.specs.Collects.{BreaksCollectionOff, Collects, IsCollectStatus};
+ghost use Rattle.program_run.specs.Upkeep.{BreaksOffUpkeep, IsUpkeepStatus, UpkeepLeaves, upkeep_of};
 ghost use Rattle.run_repair.specs.Checks.{Checks, IsCheckStatus};
 ghost use Rattle.run_repair.specs.Mends.{StaysOrMends};
 ghost use Rattle.run_repair.specs.Repairs.{IsRepairStatus, Repairs};
@@ -29,11 +30,11 @@ pub fn carry_out<F: Flash, S: Source, K: Sink>(
     ensures only { IsStatus result.0 ⊎ IsUpkeepStatus result.0 }
     ensures words { (result.0 ≡ 1) ↔ ((form_of words.now ≡ None) × (upkeep_of words.now ≡ None)) }
     ensures ran { IsTrue F.tells → upkeep_of words.now ≡ None
-        → (form : Form) → form_of words.now ≡ Some form → IsRun form F.cuts result.0
+        → (form : Form) → form_of words.now ≡ Some form → KeepsPromise form F.cuts result.0
         (moment F.Flash S.Source K.Sink flash script.old out.old)
         (moment F.Flash S.Source K.Sink result.1 script.new out.new) }
     ensures kept { IsTrue F.tells → IfSome (upkeep_of words.now) (λ upkeep.
-        Keeps upkeep result.0 (F.image flash) (F.image result.1) (K.held out.old) (K.held out.new)) }
+        UpkeepLeaves upkeep result.0 (F.image flash) (F.image result.1) (K.held out.old) (K.held out.new)) }
     ensures cut { IsTrue F.tells → IsTrue F.cuts → result.0 ≡ 4 → IfSome (upkeep_of words.now) (λ upkeep.
         BreaksOffUpkeep upkeep (F.image flash) (F.image result.1)) }
 {
@@ -57,7 +58,7 @@ fn run<F: Flash, S: Source, K: Sink>(
 ) -> (u8, F)
     ensures only { IsStatus result.0 }
     ensures words { (result.0 ≡ 1) ↔ (form_of words.now ≡ None) }
-    ensures ran { IsTrue F.tells → (form : Form) → form_of words.now ≡ Some form → IsRun form F.cuts result.0
+    ensures ran { IsTrue F.tells → (form : Form) → form_of words.now ≡ Some form → KeepsPromise form F.cuts result.0
         (moment F.Flash S.Source K.Sink flash script.old out.old)
         (moment F.Flash S.Source K.Sink result.1 script.new out.new) }
 {
@@ -67,7 +68,7 @@ fn run<F: Flash, S: Source, K: Sink>(
 // The upkeep of a flash.
 fn keep<F: Flash, K: Sink>(upkeep: Upkeep, out: &mut K, flash: &mut F) -> u8
     ensures only { IsUpkeepStatus result }
-    ensures kept { IsTrue F.tells → Keeps upkeep result
+    ensures kept { IsTrue F.tells → UpkeepLeaves upkeep result
         (F.image flash.old) (F.image flash.new) (K.held out.old) (K.held out.new) }
     ensures cut { IsTrue F.tells → IsTrue F.cuts → result ≡ 4
         → BreaksOffUpkeep upkeep (F.image flash.old) (F.image flash.new) }
@@ -105,7 +106,7 @@ fn collected<F: Flash, K: Sink>(out: &mut K, flash: &mut F) -> u8
     ensures collected { IsTrue F.tells
         → Collects result (F.image flash.old) (F.image flash.new) (K.held out.old) (K.held out.new) }
     ensures broken_off { IsTrue F.tells → IsTrue F.cuts → result ≡ 4
-        → BreaksOff (F.image flash.old) (F.image flash.new) }
+        → BreaksCollectionOff (F.image flash.old) (F.image flash.new) }
 {
     collect(out, flash)
 }

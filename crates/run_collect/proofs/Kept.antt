@@ -1,9 +1,10 @@
 -- A collected image keeps the rules 1 to 13 and has the files that it had, and what a cut within the collection leaves mends to them.
-use Rattle.std.proofs.Common.{◌≡◌, inl, inr, ⊎_elim, ℕ, ◌*◌, ◌≤◌, Bool, true, false, List, [], ◌∷◌, length, map, None, cond, refl, ap, sym, subst, ◌∙◌, arith}
+use Rattle.std.proofs.Common.{◌≡◌, ⊎_elim, ℕ, ◌*◌, ◌≤◌, Bool, true, false, List, [], ◌∷◌, length, map, None, cond, refl, ap, sym, subst, ◌∙◌, arith}
 use Rattle.std.specs.List.{filter}
+use Rattle.coffee_cuts.proofs.TornRecords.{map_among}
 use Rattle.padded.proofs.Facts.{true_or_false}
 use Rattle.coffee_cuts.specs.Mending.{IsTable, MendsToTable}
-use Rattle.coffee_layout.specs.Files.{NamedFile, Placed, extents, files_in, files_of, is_file, listed, named_file}
+use Rattle.coffee_layout.specs.Files.{Placed, extents, files_in, files_of, is_file, listed, named_file}
 use Rattle.coffee_layout.specs.Rules.{broken_image}
 use Rattle.coffee_layout.specs.Tiling.{IsTiled, nowhere, units_of}
 use Rattle.coffee_layout.specs.Units.{pages_of}
@@ -43,10 +44,6 @@ filter_within p q weaker (e ∷ es) =
     (λ (g : p e ≡ false). g)
     (true_or_false (p e)))))
     (true_or_false (q e))
-
-map_among : (f g : Placed → NamedFile) (es : List Placed) → ((e : Placed) → Among e es → f e ≡ g e) → map f es ≡ map g es
-map_among f g [] same = refl
-map_among f g (e ∷ es) same = ap (λ x. x ∷ map f es) (same e (inl refl)) ∙ ap (λ xs. g e ∷ xs) (map_among f g es (λ d a. same d (inr a)))
 
 -- the files are those among the active extents
 active_files : (us : List Unit) → filter is_file (active_extents us) ≡ files_in us

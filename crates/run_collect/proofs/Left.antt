@@ -11,8 +11,8 @@ use Rattle.reply_text.proofs.Pieces.{append_known-nil}
 use Rattle.image_model.specs.Images.{IsFirstBroken, IsSound, base}
 use Rattle.image_model.specs.Mending.{ImageMendsTo}
 use Rattle.image_model.proofs.OneBase.{sound_mends}
-use Rattle.run_collect.specs.Collects.{BreaksOff, Collected, Collects, Failed, IsCollectStatus, NumberUnsaid, RefusalUnsaid, Refuses, erased_line}
-use Rattle.run_collect.specs.Comes.{ComesTo, IsSaid}
+use Rattle.run_collect.specs.Collects.{BreaksCollectionOff, Collected, Collects, Failed, IsCollectStatus, NumberUnsaid, RefusalUnsaid, Refuses, erased_line}
+use Rattle.run_collect.specs.Comes.{CollectsTo, IsCollectionSaid}
 use Rattle.run_collect.specs.declared.came.Came.{Came}
 use Rattle.run_collect.specs.declared.came.Came.TheVariants as came
 use Rattle.run_collect.proofs.Kept.{CollectionsMend, collected_files, tiled}
@@ -24,7 +24,7 @@ use Rattle.run_collect.proofs.SameBase.{collected_base, collected_sound, cut_men
 pub left_collected : (old mid new : List ℕ) (sectors erased : ℕ) → length old ≡ 4096 * sectors → mid ≡ old → length new ≡ length mid → IsSound old
     → ((building : ℕ → Bool) (us : List Unit) → IsTiled building mid us → IsCollected building mid new us)
     → ((building : ℕ → Bool) (us : List Unit) → IsTiled building mid us → erased ≡ number_taken (is_taken us) (length mid / 4096))
-    → ComesTo old new (came.Collected erased)
+    → CollectsTo old new (came.Collected erased)
 left_collected old mid new sectors erased size same long s collected number =
     let there : IsTiled nowhere mid (units_of old) = subst (λ i. IsTiled nowhere i (units_of old)) (sym same) (tiled old old sectors size refl s.volume) in
     let is : IsCollected nowhere old new (units_of old) = subst (λ i. IsCollected nowhere i new (units_of old)) same (collected nowhere (units_of old) there) in
@@ -40,7 +40,7 @@ left_collected old mid new sectors erased size same long s collected number =
     )
 
 -- an image that is as it was
-pub left_same : (old new : List ℕ) (sectors : ℕ) → length old ≡ 4096 * sectors → new ≡ old → BreaksOff old new
+pub left_same : (old new : List ℕ) (sectors : ℕ) → length old ≡ 4096 * sectors → new ≡ old → BreaksCollectionOff old new
 left_same old new sectors size same = record {
   sound = λ s. subst (λ i. ImageMendsTo i (λ db. db ≡ base old)) (sym same) (sound_mends old sectors size s);
   other = λ unsound. same;
@@ -48,7 +48,7 @@ left_same old new sectors size same = record {
 
 -- one whose collection broke off
 pub left_cut : CollectionsMend → (old mid new : List ℕ) (sectors : ℕ) → length old ≡ 4096 * sectors → sectors ≤ 4095 → mid ≡ old → length new ≡ length mid → IsSound old
-    → ((building : ℕ → Bool) (us : List Unit) → IsTiled building mid us → IsCutCollection building mid new us) → BreaksOff old new
+    → ((building : ℕ → Bool) (us : List Unit) → IsTiled building mid us → IsCutCollection building mid new us) → BreaksCollectionOff old new
 left_cut mend old mid new sectors size few same long s cut =
     let there : IsTiled nowhere mid (units_of old) = subst (λ i. IsTiled nowhere i (units_of old)) (sym same) (tiled old old sectors size refl s.volume) in
     let is : IsCutCollection nowhere old new (units_of old) = subst (λ i. IsCutCollection nowhere i new (units_of old)) same (cut nowhere (units_of old) there) in
@@ -95,7 +95,7 @@ module _ (status : ℕ) (old new : List ℕ) (held now : Option (List ℕ)) wher
   none_less : WroteLess held now [] → ⊥
   none_less w = omega (arith, w.some, ap length w.whole, length-append w.written w.left)
 
-  pub collects : (c : Came) → ComesTo old new c → IsSaid status c held now → Collects status old new held now
+  pub collects : (c : Came) → CollectsTo old new c → IsCollectionSaid status c held now → Collects status old new held now
   collects (came.Collected erased) left (inl all) = by_done all.0 (record { image = left.0; written = all.1 ∙ ap (λ n. append_known held (erased_line n)) left.1 })
   collects (came.Collected erased) left (inr less) = by_unsaid less.0 (inl (record { image = left.0; written = subst (λ n. WroteLess held now (erased_line n)) left.1 less.1 }))
   collects (came.Refused bad) left (inl all) = by_refused all.0 (record { rule = bad.rule; place = bad.place; left = left; written = all.1 })

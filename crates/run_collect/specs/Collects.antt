@@ -70,7 +70,7 @@ pub record Collects (status : ℕ) (old new : List ℕ) (held now : Option (List
   pub refused : status ≡ 6 → Refuses old new held now
 
 -- where failures are cuts: an image that was sound mends to the database that it stood for, and no other was written
-pub record BreaksOff (old new : List ℕ) : Type 0 where
+pub record BreaksCollectionOff (old new : List ℕ) : Type 0 where
   pub sound : IsSound old → ImageMendsTo new (λ db. db ≡ base old)
   pub other : (IsSound old → ⊥) → new ≡ old
 

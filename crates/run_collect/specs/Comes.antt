@@ -4,34 +4,34 @@ use Rattle.std.specs.Io.KnownBytes.{append_known}
 use Rattle.reply_text.specs.WroteLess.{WroteLess}
 use Rattle.run_model.specs.Runs.{image_line}
 use Rattle.image_model.specs.Images.{IsSound}
-use Rattle.run_collect.specs.Collects.{BreaksOff, IsCollectedImage, IsLeftAsItWas, erased_line, sectors_taken}
+use Rattle.run_collect.specs.Collects.{BreaksCollectionOff, IsCollectedImage, IsLeftAsItWas, erased_line, sectors_taken}
 use Rattle.run_collect.specs.declared.came.Came.{Came}
 use Rattle.run_collect.specs.declared.came.Came.TheVariants.{Collected, Refused, Failed}
 
 -- what is left of an image
-abbrev pub ComesTo : (old new : List ℕ) → Came → Type 0
-ComesTo old new (Collected erased) = IsCollectedImage old new × (erased ≡ sectors_taken old)
-ComesTo old new (Refused bad) = IsLeftAsItWas old new bad.rule bad.place
-ComesTo old new Failed = (new ≡ old) ⊎ IsSound old
+abbrev pub CollectsTo : (old new : List ℕ) → Came → Type 0
+CollectsTo old new (Collected erased) = IsCollectedImage old new × (erased ≡ sectors_taken old)
+CollectsTo old new (Refused bad) = IsLeftAsItWas old new bad.rule bad.place
+CollectsTo old new Failed = (new ≡ old) ⊎ IsSound old
 
 -- and where failures are cuts
-abbrev pub BreaksBy : (old new : List ℕ) → Came → Type 0
-BreaksBy old new Failed = BreaksOff old new
-BreaksBy old new _ = ⊤
+abbrev pub BreaksCollectionBy : (old new : List ℕ) → Came → Type 0
+BreaksCollectionBy old new Failed = BreaksCollectionOff old new
+BreaksCollectionBy old new _ = ⊤
 
 -- what is said
-abbrev pub said : Came → List ℕ
-said (Collected erased) = erased_line erased
-said (Refused bad) = image_line bad.rule bad.place
-said Failed = []
+abbrev pub collection_lines : Came → List ℕ
+collection_lines (Collected erased) = erased_line erased
+collection_lines (Refused bad) = image_line bad.rule bad.place
+collection_lines Failed = []
 
 -- the status, where all of it is said
-abbrev pub status_after : Came → ℕ
-status_after (Collected erased) = 0
-status_after (Refused bad) = 6
-status_after Failed = 4
+abbrev pub collection_status : Came → ℕ
+collection_status (Collected erased) = 0
+collection_status (Refused bad) = 6
+collection_status Failed = 4
 
 -- all was said, or less than that
-abbrev pub IsSaid : (status : ℕ) → Came → (held now : Option (List ℕ)) → Type 0
-IsSaid status came held now =
-    ((status ≡ status_after came) × (now ≡ append_known held (said came))) ⊎ ((status ≡ 5) × WroteLess held now (said came))
+abbrev pub IsCollectionSaid : (status : ℕ) → Came → (held now : Option (List ℕ)) → Type 0
+IsCollectionSaid status came held now =
+    ((status ≡ collection_status came) × (now ≡ append_known held (collection_lines came))) ⊎ ((status ≡ 5) × WroteLess held now (collection_lines came))

@@ -1,7 +1,7 @@
 ghost use Rattle.std.specs.Prelude.{◌≡◌, ◌⊎◌, IsTrue, length};
 ghost use Rattle.afl_base.specs.Causes.{Rose};
-ghost use Rattle.run_collect.specs.Collects.{BreaksOff, Collects, IsCollectStatus};
-ghost use Rattle.run_collect.specs.Comes.{BreaksBy, ComesTo};
+ghost use Rattle.run_collect.specs.Collects.{BreaksCollectionOff, Collects, IsCollectStatus};
+ghost use Rattle.run_collect.specs.Comes.{BreaksCollectionBy, CollectsTo};
 ghost use Rattle.run_collect.specs.declared.came.Came.TheVariants.{Failed as FaultOfFlash};
 ghost use Rattle.image_model.specs.Images.{IsSound};
 
@@ -26,7 +26,7 @@ pub fn collect<F: Flash, K: Sink>(out: &mut K, flash: &mut F) -> u8
     ensures told { IsTrue F.tells
         → Collects result (F.image flash.old) (F.image flash.new) (K.held out.old) (K.held out.new) }
     ensures broken_off { IsTrue F.tells → IsTrue F.cuts → result ≡ 4
-        → BreaksOff (F.image flash.old) (F.image flash.new) }
+        → BreaksCollectionOff (F.image flash.old) (F.image flash.new) }
     ensures unsound { IsTrue F.tells → (IsSound (F.image flash.old) → ⊥)
         → (result ≡ 4) ⊎ (result ≡ 5) ⊎ (result ≡ 6) }
     ensures no_fault { IsTrue F.tells → IsSound (F.image flash.old)
@@ -45,8 +45,8 @@ pub fn collect<F: Flash, K: Sink>(out: &mut K, flash: &mut F) -> u8
 
 // What a collection comes to. The image is judged by reading alone, before anything is written.
 fn come<F: Flash>(flash: &mut F) -> Came
-    ensures comes { IsTrue F.tells → ComesTo (F.image flash.old) (F.image flash.new) result }
-    ensures broken { IsTrue F.tells → IsTrue F.cuts → BreaksBy (F.image flash.old) (F.image flash.new) result }
+    ensures comes { IsTrue F.tells → CollectsTo (F.image flash.old) (F.image flash.new) result }
+    ensures broken { IsTrue F.tells → IsTrue F.cuts → BreaksCollectionBy (F.image flash.old) (F.image flash.new) result }
     ensures size { length (F.image flash.new) ≡ length (F.image flash.old) }
     ensures lent { F.lent flash.new ≡ F.lent flash.old }
     ensures cause { result ≡ FaultOfFlash → Rose (F.faults flash.old) (F.faults flash.new) }

@@ -2,7 +2,7 @@ ghost use Rattle.std.specs.Prelude.{◌≡◌, ◌++◌, codes, decimal, OnErr, 
 ghost use Rattle.std.specs.Io.KnownBytes.{append_known};
 ghost use Rattle.afl_base.specs.Causes.{HasCause, Rose};
 ghost use Rattle.run_collect.specs.Collects.{IsCollectStatus, erased_line};
-ghost use Rattle.run_collect.specs.Comes.{IsSaid, said, status_after};
+ghost use Rattle.run_collect.specs.Comes.{IsCollectionSaid, collection_lines, collection_status};
 ghost use Rattle.run_collect.specs.declared.came.Came.TheVariants.{Failed as FaultOfFlash};
 ghost use Rattle.reply_text.specs.WroteLess.{WroteLess};
 
@@ -13,7 +13,7 @@ use run_entries::write_image_line;
 
 /// Says what a collection came to, and answers the status.
 pub fn say<K: Sink>(out: &mut K, came: Came) -> u8
-    ensures says { IsSaid result came (K.held out.old) (K.held out.new) }
+    ensures says { IsCollectionSaid result came (K.held out.old) (K.held out.new) }
     ensures only { IsCollectStatus result }
     ensures fault { result ≡ 4 → came ≡ FaultOfFlash }
     ensures rose { result ≡ 5 → Rose (K.faults out.old) (K.faults out.new) }
@@ -26,8 +26,8 @@ pub fn say<K: Sink>(out: &mut K, came: Came) -> u8
 }
 
 fn write_came<K: Sink>(out: &mut K, came: Came) -> Result<(), Failed>
-    ensures written { OnOk result (K.held out.new ≡ append_known (K.held out.old) (said came)) }
-    ensures failed { OnErr result (WroteLess (K.held out.old) (K.held out.new) (said came)) }
+    ensures written { OnOk result (K.held out.new ≡ append_known (K.held out.old) (collection_lines came)) }
+    ensures failed { OnErr result (WroteLess (K.held out.old) (K.held out.new) (collection_lines came)) }
     ensures lent { K.lent out.new ≡ K.lent out.old }
     ensures cause { HasCause (K.faults out.old) (K.faults out.new) result }
 {
@@ -51,7 +51,7 @@ fn write_erased<K: Sink>(out: &mut K, erased: u64) -> Result<(), Failed>
 }
 
 fn status(came: Came) -> u8
-    ensures { result ≡ status_after came }
+    ensures { result ≡ collection_status came }
 {
     match came {
         Came::Collected { erased: _ } => 0,

@@ -17,7 +17,8 @@ use Rattle.image_model.specs.Images.{IsFirstBroken, IsSound, base}
 use Rattle.image_model.specs.Mending.{ImageMendsTo}
 use Rattle.image_model.proofs.OneBase.{sound_mends}
 use Rattle.antelope_run.specs.Endings.{BrokenOff, InputLeaves, LeavesBehind, LeavesImage}
-use Rattle.antelope_run.specs.Promise.{ComesTo, EndsBrokenOff, IsRun, LeftBy, Moment, status_by, status_of}
+use Rattle.antelope_run.specs.Promise.{ComesTo, EndsBrokenOff, KeepsPromise, LeftBy, status_by, status_of}
+use Rattle.run_model.specs.Moments.{Moment}
 use Rattle.antelope_run.specs.declared.came.Came.{Came}
 use Rattle.antelope_run.specs.declared.came.Came.TheVariants.{Opened, Refused, Unsaid, Failed}
 use Rattle.run_words.specs.declared.words.Form.{Form}
@@ -184,7 +185,7 @@ module _ {E : Type 0} (line : Line E) (talk : Talk E) (sectors : ℕ) where
   -- so it is by whatever a run came to
   pub survived : ((image : List ℕ) (rule place : ℕ) → IsSound image → IsFirstBroken image rule place → ⊥) → (form : Form) (status : ℕ) (old new : Moment) → IsSound old.world.image
       → length new.world.image ≡ 4096 * sectors → ((done : Result ⊤ InputEnding) → LeavesBehind form old.world new.world done → InputLeaves line talk old.world new.world done)
-      → (BrokenOff form old.world new.world → InputBrokenOff line talk old.world new.world) → IsRun form true status old new → InputSurvives line talk old.world new.world
+      → (BrokenOff form old.world new.world → InputBrokenOff line talk old.world new.world) → KeepsPromise form true status old new → InputSurvives line talk old.world new.world
   survived unbroken form status old new sound size leaves breaks run = by_came run.told.came run.told.is run.told.left
     where
       at_cut : status ≡ 4 → InputSurvives line talk old.world new.world

@@ -4,7 +4,8 @@
 
 ghost use Rattle.std.specs.Prelude.{◌≡◌, ◌≢◌, ◌≤◌, ◌*◌, ◌/◌, ℕ, suc, List, Option, length, true, Some, Result};
 ghost use Rattle.run_words.specs.declared.words.Form.TheVariants.{Run, Serve};
-ghost use Rattle.antelope_run.specs.Promise.{HasSpace, IsRun, LeftBy, Moment};
+ghost use Rattle.antelope_run.specs.Promise.{HasSpace, KeepsPromise, LeftBy};
+ghost use Rattle.run_model.specs.Moments.{Moment};
 ghost use Rattle.db_model.specs.declared.commands.Command.{Command};
 ghost use Rattle.db_model.specs.declared.refusals.Refusal.{Refusal};
 ghost use Rattle.db_model.specs.Database.{Database, empty_database};
@@ -130,10 +131,10 @@ pub fn one_place_is_unsaid()
 pub fn runs_survive_cuts()
     ensures scripts { (read : List ℕ → Result Command Refusal) → IsReader read → (status : ℕ) (old new : Moment)
         → IsSound old.world.image → (sectors : ℕ) → length new.world.image ≡ 4096 * sectors
-        → IsRun Run true status old new → InputSurvives script_line (script_talk read) old.world new.world }
+        → KeepsPromise Run true status old new → InputSurvives script_line (script_talk read) old.world new.world }
     ensures served { (read : List ℕ → Result Command Refusal) → IsReader read → (status : ℕ) (old new : Moment)
         → IsSound old.world.image → (sectors : ℕ) → length new.world.image ≡ 4096 * sectors
-        → IsRun Serve true status old new → InputSurvives frame_line (serve_talk read) old.world new.world }
+        → KeepsPromise Serve true status old new → InputSurvives frame_line (serve_talk read) old.world new.world }
 {
     sound_image_breaks_no_rule();
 }
@@ -144,13 +145,13 @@ pub fn runs_survive_cuts()
 pub fn repairs_restore_what_cuts_left()
     ensures scripts { (read : List ℕ → Result Command Refusal) → IsReader read → (status : ℕ) (old new : Moment)
         → IsSound old.world.image → (sectors : ℕ) → length new.world.image ≡ 4096 * sectors
-        → IsRun Run true status old new → (repair : ℕ) (image : List ℕ) (held now : Option (List ℕ))
+        → KeepsPromise Run true status old new → (repair : ℕ) (image : List ℕ) (held now : Option (List ℕ))
         → Repairs repair new.world.image image held now
         → (repair ≡ 4 → StaysOrMends new.world.image image) → repair ≢ 5
         → InputRestores script_line (script_talk read) old.world new.world repair image }
     ensures served { (read : List ℕ → Result Command Refusal) → IsReader read → (status : ℕ) (old new : Moment)
         → IsSound old.world.image → (sectors : ℕ) → length new.world.image ≡ 4096 * sectors
-        → IsRun Serve true status old new → (repair : ℕ) (image : List ℕ) (held now : Option (List ℕ))
+        → KeepsPromise Serve true status old new → (repair : ℕ) (image : List ℕ) (held now : Option (List ℕ))
         → Repairs repair new.world.image image held now
         → (repair ≡ 4 → StaysOrMends new.world.image image) → repair ≢ 5
         → InputRestores frame_line (serve_talk read) old.world new.world repair image }
@@ -164,12 +165,12 @@ pub fn repairs_restore_what_cuts_left()
 pub fn interrupted_repairs_restore_what_cuts_left()
     ensures scripts { (read : List ℕ → Result Command Refusal) → IsReader read → (status : ℕ) (old new : Moment)
         → IsSound old.world.image → (sectors : ℕ) → length new.world.image ≡ 4096 * sectors
-        → IsRun Run true status old new → (repairs : ℕ) (left image : List ℕ) (held now : Option (List ℕ))
+        → KeepsPromise Run true status old new → (repairs : ℕ) (left image : List ℕ) (held now : Option (List ℕ))
         → AreInterrupted repairs new.world.image left → Repairs 0 left image held now
         → InputRestoredAfter script_line (script_talk read) old.world new.world (suc repairs) image }
     ensures served { (read : List ℕ → Result Command Refusal) → IsReader read → (status : ℕ) (old new : Moment)
         → IsSound old.world.image → (sectors : ℕ) → length new.world.image ≡ 4096 * sectors
-        → IsRun Serve true status old new → (repairs : ℕ) (left image : List ℕ) (held now : Option (List ℕ))
+        → KeepsPromise Serve true status old new → (repairs : ℕ) (left image : List ℕ) (held now : Option (List ℕ))
         → AreInterrupted repairs new.world.image left → Repairs 0 left image held now
         → InputRestoredAfter frame_line (serve_talk read) old.world new.world (suc repairs) image }
 {

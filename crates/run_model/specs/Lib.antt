@@ -1,4 +1,5 @@
 pub mod Line
+pub mod Moments
 pub mod Runs
 pub mod Scripts
 pub mod Talk

@@ -204,6 +204,10 @@ module _ {E : Type 0} (line : Line E) (talk : Talk E) where
   ReadsWithin old n = (text : List ℕ) → old.left ≡ Some text → AllByRecursion (AsksToRead talk) (line.all text)
       → n ≤ opening_cost (base old.image) (length old.image / 256) + talk_costs talk (base old.image) no_cursors (line.all text)
 
+  -- before each of its commands the flash has enough sectors
+  abbrev pub InputHasEnough : World → Type 0
+  InputHasEnough old = (text : List ℕ) → old.left ≡ Some text → HasEnough (machine_from talk (base old.image)) (length old.image / 4096) (line.all text)
+
 -- 16,777,216 bytes came, and one more
 pub record CameToLimit (old new : Option (List ℕ)) : Type 0 where
   pub bytes : List ℕ

@@ -31,9 +31,9 @@ use Rattle.space_model.specs.FileNames.{catalog_file, file_named, is_there}
 use Rattle.space_model.proofs.NamedFiles.{named_place}
 use Rattle.stored.specs.Mended.{whole_bytes}
 use Rattle.stored.proofs.SoundCut.{named_there}
-use Rattle.stored_mend.specs.Reported.{bytes_seen}
+use Rattle.stored_mend.specs.Reported.{bytes_by_name}
 use Rattle.stored_mend.proofs.OneFile.{catalog_no_tree}
-use Rattle.run_repair.specs.GivenUp.{IsBeingGivenUp, IsGivenUp, LacksTree, MayLack}
+use Rattle.run_repair.specs.GivenUp.{IsBeingGivenUp, IsGivenUp, IsTreeRemoved, MayLack}
 use Rattle.run_repair.proofs.LostTrees.{seen_bytes}
 
 -- ---- a table that an image mends to
@@ -59,7 +59,7 @@ there image files m f has =
 module _ (image other : List ℕ) (files others : Table) (m : MendsToFiles image files) (n : MendsToFiles other others) (sectors : ℕ) (size : length image ≡ 4096 * sectors) (name : List ℕ) where
   -- a file of this name is seen alike in two tables where each of the images has it if the other one does
   pub seen_alike : ((f : NamedFile) → f.name ≡ name → Contains m.named f → Contains n.named f) → ((f : NamedFile) → f.name ≡ name → Contains n.named f → Contains m.named f)
-      → bytes_seen name others ≡ bytes_seen name files
+      → bytes_by_name name others ≡ bytes_by_name name files
   seen_alike kept only = by_both (file_named name files) refl (file_named name others) refl
     where
       by_both : (o : Option File) → file_named name files ≡ o → (p : Option File) → file_named name others ≡ p → option_map (λ (f : File). f.bytes) p ≡ option_map (λ (f : File). f.bytes) o
@@ -79,7 +79,7 @@ module _ (image other : List ℕ) (files others : Table) (m : MendsToFiles image
           ap (λ (x : NamedFile). Some x.bytes) (sym same)
 
   -- and in none where none is
-  pub seen_none : ((f : NamedFile) → Contains n.named f → f.name ≢ name) → bytes_seen name others ≡ None
+  pub seen_none : ((f : NamedFile) → Contains n.named f → f.name ≢ name) → bytes_by_name name others ≡ None
   seen_none none = by_file (file_named name others) refl
     where
       by_file : (p : Option File) → file_named name others ≡ p → option_map (λ (f : File). f.bytes) p ≡ None
@@ -122,26 +122,26 @@ module _ (image : List ℕ) (sectors : ℕ) (size : length image ≡ 4096 * sect
   named_left = one_list left left_mends.named (files_of left) sectors left_size left_mends.mends left_own
 
   -- all but the file of the name are as they were
-  seen_others : (name : List ℕ) → name ≢ file.name → bytes_seen name others ≡ bytes_seen name (files_of_image image)
+  seen_others : (name : List ℕ) → name ≢ file.name → bytes_by_name name others ≡ bytes_by_name name (files_of_image image)
   seen_others name differs =
       seen_alike image left (files_of_image image) others mends left_mends sectors size name
       (λ f is has. subst (λ fs. Contains fs f) (sym named_left) (d.kept f (subst (λ fs. Contains fs f) named_own has) (λ e. differs (sym is ∙ e))))
       (λ f is has. subst (λ fs. Contains fs f) (sym named_own) (d.only f (subst (λ fs. Contains fs f) named_left has)).0)
 
-  seen_gone : bytes_seen file.name others ≡ None
+  seen_gone : bytes_by_name file.name others ≡ None
   seen_gone =
       seen_none image left (files_of_image image) others mends left_mends sectors size file.name
       (λ f has. (d.only f (subst (λ fs. Contains fs f) named_left has)).1)
 
   module _ (may : MayLack others file.name) where
-    lacks : LacksTree (files_of_image image) others may.slot
+    lacks : IsTreeRemoved (files_of_image image) others may.slot
     lacks = record {
       below = may.below;
       asked =
           ap (λ xs. is_tree (index_at (whole_bytes xs) may.slot))
           (sym (seen_bytes (file_named catalog_file others) (file_named catalog_file (files_of_image image)) (seen_others catalog_file (λ e. catalog_no_tree may.slot (e ∙ may.named)))))
           ∙ may.asked;
-      gone = subst (λ name. bytes_seen name others ≡ None) may.named seen_gone;
+      gone = subst (λ name. bytes_by_name name others ≡ None) may.named seen_gone;
       others = λ name differs. seen_others name (λ e. differs (e ∙ may.named));
     }
 

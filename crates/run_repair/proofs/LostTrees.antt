@@ -11,9 +11,10 @@ use Rattle.space_model.specs.FileNames.{bytes_in_file, catalog_file, file_named,
 use Rattle.stored.specs.CutTables.{slot_bytes}
 use Rattle.stored.specs.Mended.{mended_base, whole_bytes, whole_catalog}
 use Rattle.stored.proofs.MendedBase.{index_mended_at, index_waits}
+use Rattle.stored_mend.proofs.ReportAs.{size_by as seen_size}
 use Rattle.stored_mend.specs.Filled.{IsFilledSlot}
 use Rattle.stored_mend.specs.Mending.{IsPutRight, IsWholeCatalog}
-use Rattle.stored_mend.specs.Reported.{IsCatalogGone, IsCatalogLonger, IsDone, IsReported, bytes_seen, index_seen, relation_seen}
+use Rattle.stored_mend.specs.Reported.{IsCatalogGone, IsCatalogLonger, IsDone, IsReported, bytes_by_name, index_seen, relation_seen}
 use Rattle.stored_mend.specs.Trees.{LosesTrees, StaysUnless}
 use Rattle.stored_mend.specs.declared.report.Mended.{Mended as AnyMended}
 use Rattle.stored_mend.specs.declared.report.Mended.TheVariants.{Catalog, Mark, Relation as RelationLine, Attribute as OneAttribute, Row, Tree, Index as OneIndex, Stray}
@@ -22,7 +23,7 @@ use Rattle.stored_mend.proofs.CatalogRead.{no_tree_at, slot_byte, tree_at}
 use Rattle.stored_mend.proofs.OneFile.{catalog_no_tree, rows_no_tree, same_tree_slot}
 use Rattle.stored_mend.proofs.ReportOnce.{on_earlier, slot_earlier}
 use Rattle.stored_mend.proofs.TreesLost.{loses_then, lost}
-use Rattle.run_repair.specs.GivenUp.{LacksTree}
+use Rattle.run_repair.specs.GivenUp.{IsTreeRemoved}
 
 -- ---- what is seen of files
 
@@ -38,19 +39,13 @@ seen_bytes (Some f) (Some g) e = cc
 seen_bytes None (Some g) e = cc
 seen_bytes (Some f) None e = cc
 
-seen_size : (o p : Option File) → option_map (λ (f : File). f.bytes) o ≡ option_map (λ (f : File). f.bytes) p → option_map (λ (f : File). length f.bytes) o ≡ option_map (λ (f : File). length f.bytes) p
-seen_size None None e = refl
-seen_size (Some f) (Some g) e = let same : f.bytes ≡ g.bytes = cc in ap (λ xs. Some (length xs)) same
-seen_size None (Some g) e = cc
-seen_size (Some f) None e = cc
-
 seen_gone : (o : Option File) → option_map (λ (f : File). f.bytes) o ≡ None → is_some o ≡ false
 seen_gone None e = refl
 seen_gone (Some f) e = cc
 
 -- ---- what they mend to
 
-pub lost_base : (a b : Table) (slot : ℕ) → LacksTree a b slot → LosesTrees (mended_base a) (mended_base b)
+pub lost_base : (a b : Table) (slot : ℕ) → IsTreeRemoved a b slot → LosesTrees (mended_base a) (mended_base b)
 lost_base a b slot l =
     lost a b slot (λ (k : ℕ). ⊤)
     (λ name other. seen_bytes (file_named name b) (file_named name a) (l.others name other))
@@ -86,7 +81,7 @@ right_behind a b c l r =
 -- ---- the index is gone then
 
 -- the index whose tree is gone stands in none of the databases that these files are put right to
-pub none_right : (a b : Table) (slot : ℕ) → LacksTree a b slot → (now : Database) → IsPutRight (mended_base b) now → get_or now.indexes slot None ≡ None
+pub none_right : (a b : Table) (slot : ℕ) → IsTreeRemoved a b slot → (now : Database) → IsPutRight (mended_base b) now → get_or now.indexes slot None ≡ None
 none_right a b slot l now r =
     let gone : is_there (tree_file slot) b ≡ false = seen_gone (file_named (tree_file slot) b) l.gone in
     let catalog : catalog_bytes_in b ≡ catalog_bytes_in a = seen_bytes (file_named catalog_file b) (file_named catalog_file a) (l.others catalog_file (catalog_no_tree slot)) in
@@ -100,7 +95,7 @@ none_right a b slot l now r =
 
 -- ---- what is told
 
-module _ (a b new : Table) (slot : ℕ) (others : (name : List ℕ) → name ≢ tree_file slot → bytes_seen name b ≡ bytes_seen name a) (asked : is_tree (index_seen a slot) ≡ true) (none : index_seen new slot ≡ None) where
+module _ (a b new : Table) (slot : ℕ) (others : (name : List ℕ) → name ≢ tree_file slot → bytes_by_name name b ≡ bytes_by_name name a) (asked : is_tree (index_seen a slot) ≡ true) (none : index_seen new slot ≡ None) where
   catalog_same : catalog_bytes_in b ≡ catalog_bytes_in a
   catalog_same = seen_bytes (file_named catalog_file b) (file_named catalog_file a) (others catalog_file (catalog_no_tree slot))
 
@@ -116,10 +111,10 @@ module _ (a b new : Table) (slot : ℕ) (others : (name : List ℕ) → name ≢
   index_same : (i : ℕ) → index_seen b i ≡ index_seen a i
   index_same i = ap (λ (xs : List ℕ). index_at xs i) whole_same
 
-  rows_same : (k : ℕ) → bytes_seen (rows_file k) b ≡ bytes_seen (rows_file k) a
+  rows_same : (k : ℕ) → bytes_by_name (rows_file k) b ≡ bytes_by_name (rows_file k) a
   rows_same k = others (rows_file k) (rows_no_tree k slot)
 
-  tree_same : (i : ℕ) → i ≢ slot → bytes_seen (tree_file i) b ≡ bytes_seen (tree_file i) a
+  tree_same : (i : ℕ) → i ≢ slot → bytes_by_name (tree_file i) b ≡ bytes_by_name (tree_file i) a
   tree_same i other = others (tree_file i) (λ e. other (same_tree_slot i slot e))
 
   relation_same : (k : ℕ) → k < 8 → relation_seen b k ≡ relation_seen a k
@@ -160,7 +155,7 @@ module _ (a b new : Table) (slot : ℕ) (others : (name : List ℕ) → name ≢
   asked_too : is_tree (index_seen b slot) ≡ true
   asked_too = ap is_tree (index_same slot) ∙ asked
 
-pub lost_reported : (a b new : Table) (slot : ℕ) (lines : List AnyMended) → LacksTree a b slot → index_seen new slot ≡ None → IsReported b new lines → IsReported a new lines
+pub lost_reported : (a b new : Table) (slot : ℕ) (lines : List AnyMended) → IsTreeRemoved a b slot → index_seen new slot ≡ None → IsReported b new lines → IsReported a new lines
 lost_reported a b new slot lines l none r = record {
   done = λ line there. done_with a b new slot l.others l.asked none line (r.done line there);
   told = λ line d. r.told line (done_with b a new slot (λ name other. sym (l.others name other)) (asked_too a b new slot l.others l.asked none) none line d);

@@ -19,7 +19,7 @@ use Rattle.stored_mend.proofs.PutRight.{put_right_same}
 use Rattle.stored_mend.proofs.ReportNames.{index_formed}
 use Rattle.stored_mend.proofs.TreesLost.{loses_same}
 use Rattle.run_repair.specs.Findings.{IsLeftByCut, MayBeCut}
-use Rattle.run_repair.specs.GivenUp.{IsBeingGivenUp, IsGivenUp, IsSettledTo, LacksTree}
+use Rattle.run_repair.specs.GivenUp.{IsBeingGivenUp, IsGivenUp, IsSettledTo, IsTreeRemoved}
 use Rattle.run_repair.specs.Mends.{IsRestored, MendsButLacks, MendsPutRight, OnFault, OnSpaceless, StillMends, StillMendsButLacks}
 use Rattle.run_repair.specs.Repairs.{IsReportedOf, Leaves}
 use Rattle.run_repair.specs.declared.came.Came.TheVariants.{Repaired}
@@ -139,7 +139,7 @@ left_repaired old mid late new unsound cut s restored same = (
 -- ---- what is told
 
 -- the index whose tree was given up is gone
-none_seen : (a b : Table) (slot : ℕ) → LacksTree a b slot → (image : List ℕ) → IsSound image → IsPutRight (mended_base b) (base image) → index_seen (files_of_image image) slot ≡ None
+none_seen : (a b : Table) (slot : ℕ) → IsTreeRemoved a b slot → (image : List ℕ) → IsSound image → IsPutRight (mended_base b) (base image) → index_seen (files_of_image image) slot ≡ None
 unfolding base
 none_seen a b slot l image sound r =
     sym (index_formed (files_of_image image) slot l.below (unbroken (files_of_image image) sound.database.catalog).inner) ∙ none_right a b slot l (base image) r

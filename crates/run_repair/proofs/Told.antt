@@ -8,7 +8,7 @@ use Rattle.image_model.proofs.HandedBack.{image_distinct}
 use Rattle.image_model.proofs.Mounted.{mounted_files}
 use Rattle.stored.specs.Same.{HaveSameFiles}
 use Rattle.stored.proofs.SameBase.{bytes_same, there_same}
-use Rattle.stored_mend.specs.Reported.{IsReported, bytes_seen}
+use Rattle.stored_mend.specs.Reported.{IsReported, bytes_by_name}
 use Rattle.stored_mend.specs.declared.report.Mended.{Mended}
 use Rattle.stored_mend.proofs.ReportAs.{reported_as}
 use Rattle.stored_mend.proofs.ReportTrees.{seen_as}
@@ -18,10 +18,10 @@ use Rattle.run_repair.specs.declared.came.Hindrance.{Hindrance}
 
 -- the files of a volume are seen in the image that it stands on
 pub image_seen : (files : Table) (image : List ℕ) (sectors : ℕ) → length image ≡ 4096 * sectors → length files ≡ 32 → AreDistinct files → HaveSameFiles files (mounted_state image).files → broken_image image ≡ None
-    → (name : List ℕ) → bytes_seen name (files_of_image image) ≡ bytes_seen name files
+    → (name : List ℕ) → bytes_by_name name (files_of_image image) ≡ bytes_by_name name files
 image_seen files image sectors size places d same kept name =
     let e = image_distinct files image sectors size places d same kept in
-    subst (λ (t : Table). bytes_seen name t ≡ bytes_seen name files) (mounted_files image)
+    subst (λ (t : Table). bytes_by_name name t ≡ bytes_by_name name files) (mounted_files image)
     (seen_as name files (mounted_state image).files (sym (there_same files (mounted_state image).files name d e same)) (sym (bytes_same files (mounted_state image).files name d e same)))
 
 pub image_reported : (old files : Table) (image : List ℕ) (mended : List Mended) (sectors : ℕ) → length image ≡ 4096 * sectors → length files ≡ 32 → AreDistinct files → HaveSameFiles files (mounted_state image).files

@@ -74,10 +74,10 @@ pub record IsStrange (image : List ℕ) (rule place : ℕ) : Type 0 where
 -- ---- what is said of it
 
 -- what is said of an image is true of it
-abbrev pub IsFound : List ℕ → Finding → Type 0
-IsFound image Sound = IsSound image
-IsFound image (Cut trouble bad) = (IsSound image → ⊥) × IsLeftByCut image trouble
-IsFound image (Strange bad) = IsStrange image bad.rule bad.place
+abbrev pub IsTrueOf : List ℕ → Finding → Type 0
+IsTrueOf image Sound = IsSound image
+IsTrueOf image (Cut trouble bad) = (IsSound image → ⊥) × IsLeftByCut image trouble
+IsTrueOf image (Strange bad) = IsStrange image bad.rule bad.place
 
 -- what a cut left lies inside a flash of this many bytes
 abbrev pub IsFindingInside : (size : ℕ) → Finding → Type 0

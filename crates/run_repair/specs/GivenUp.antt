@@ -7,7 +7,7 @@ use Rattle.coffee_volume.specs.Cuts.{MendsToFiles}
 use Rattle.image_model.specs.Images.{files_of_image}
 use Rattle.space_model.specs.FileNames.{tree_file}
 use Rattle.stored.specs.CutTables.{IsCutTable}
-use Rattle.stored_mend.specs.Reported.{bytes_seen, index_seen}
+use Rattle.stored_mend.specs.Reported.{bytes_by_name, index_seen}
 
 -- files lack the tree of a name, which an index in their catalog has, and a cut can have left them
 pub record MayLack (files : Table) (name : List ℕ) : Type 0 where
@@ -18,11 +18,11 @@ pub record MayLack (files : Table) (name : List ℕ) : Type 0 where
   pub cut : IsCutTable files
 
 -- the tree of the index in a slot is gone from files, and all others are as they were
-pub record LacksTree (old new : Table) (slot : ℕ) : Type 0 where
+pub record IsTreeRemoved (old new : Table) (slot : ℕ) : Type 0 where
   pub below : slot < 8
   pub asked : is_tree (index_seen old slot) ≡ true
-  pub gone : bytes_seen (tree_file slot) new ≡ None
-  pub others : (name : List ℕ) → name ≢ tree_file slot → bytes_seen name new ≡ bytes_seen name old
+  pub gone : bytes_by_name (tree_file slot) new ≡ None
+  pub others : (name : List ℕ) → name ≢ tree_file slot → bytes_by_name name new ≡ bytes_by_name name old
 
 -- an image keeps the rules of files, and has the files that another mends to but for the tree of an index; a cut can have
 -- left these
@@ -32,7 +32,7 @@ pub record IsGivenUp (old new : List ℕ) : Type 0 where
   pub sound : broken_image new ≡ None
   pub cut : IsCutTable (files_of_image new)
   pub slot : ℕ
-  pub lacks : LacksTree files (files_of_image new) slot
+  pub lacks : IsTreeRemoved files (files_of_image new) slot
 
 -- an image mends to such files
 pub record IsBeingGivenUp (old new : List ℕ) : Type 0 where
@@ -42,7 +42,7 @@ pub record IsBeingGivenUp (old new : List ℕ) : Type 0 where
   pub still : MendsToFiles new others
   pub cut : IsCutTable others
   pub slot : ℕ
-  pub lacks : LacksTree files others slot
+  pub lacks : IsTreeRemoved files others slot
 
 -- an image keeps the rules of files, and has the files that another mends to, or these but for the tree of an index; a cut
 -- can have left them
@@ -51,4 +51,4 @@ pub record IsSettledTo (old new : List ℕ) : Type 0 where
   pub mends_to : MendsToFiles old files
   pub sound : broken_image new ≡ None
   pub cut : IsCutTable (files_of_image new)
-  pub kept : (files_of_image new ≡ files) ⊎ ((slot : ℕ) × LacksTree files (files_of_image new) slot)
+  pub kept : (files_of_image new ≡ files) ⊎ ((slot : ℕ) × IsTreeRemoved files (files_of_image new) slot)

@@ -12,8 +12,8 @@ pub record Restores (db : Database) (new : List ℕ) : Type 0 where
   pub base_is : IsPutRight db (base new)
 
 -- 3: it still mends to that database, put right, and no extent is available that the repair needed
-abbrev pub LacksPages : Database → (new : List ℕ) → Type 0
-LacksPages db new = (need : ℕ) × MendsButLacks db new need
+abbrev pub IsRepairCramped : Database → (new : List ℕ) → Type 0
+IsRepairCramped db new = (need : ℕ) × MendsButLacks db new need
 
 -- 6: it is as it was, and the database is the empty one
 pub record RefusesEmpty (db : Database) (old new : List ℕ) : Type 0 where
@@ -24,7 +24,7 @@ pub record RefusesEmpty (db : Database) (old new : List ℕ) : Type 0 where
 abbrev pub RepairsTo : (status : ℕ) → Database → (old new : List ℕ) → Type 0
 RepairsTo status db old new =
     ((status ≡ 0) × Restores db new)
-    ⊎ (((status ≡ 3) × LacksPages db new) ⊎ (((status ≡ 4) × MendsPutRight db new) ⊎ ((status ≡ 6) × RefusesEmpty db old new)))
+    ⊎ (((status ≡ 3) × IsRepairCramped db new) ⊎ (((status ≡ 4) × MendsPutRight db new) ⊎ ((status ≡ 6) × RefusesEmpty db old new)))
 
 -- ---- repairs one after another
 

@@ -1,7 +1,7 @@
 ghost use Rattle.std.specs.Prelude.{◌≡◌, ◌≤◌, IfNone, IfOk, IfSome, IsTrue, List, length, ℕ};
 ghost use Rattle.afl_base.specs.Causes.{HasCause};
 ghost use Rattle.coffee_find.specs.Found.{IsCutBy, IsJudged, IsJudgedInside, IsTroubleInside, MendsToNone};
-ghost use Rattle.run_repair.specs.Findings.{IsFindingInside, IsFound};
+ghost use Rattle.run_repair.specs.Findings.{IsFindingInside, IsTrueOf};
 
 use crate::judging::judge_image;
 use crate::surveying::survey_image;
@@ -24,7 +24,7 @@ pub enum Finding {
 /// Finds by reading alone what an image is: a repair writes exactly where a cut can have left it, and a check says so.
 #[inline(never)]
 pub fn find_out<F: Flash>(flash: &mut F) -> Result<Finding, Failed>
-    ensures found { IsTrue F.tells → IfOk result (IsFound (F.image flash.old)) }
+    ensures found { IsTrue F.tells → IfOk result (IsTrueOf (F.image flash.old)) }
     ensures inside { IfOk result (IsFindingInside (length (F.image flash.old))) }
     ensures same { F.image flash.new ≡ F.image flash.old }
     ensures lent { F.lent flash.new ≡ F.lent flash.old }

@@ -1,16 +1,12 @@
 -- Bytes that neither end a piece nor begin or end a quote.
-use Rattle.std.proofs.Common.{◌≡◌, ℕ, Bool, true, false, not, ◌||◌, ◌==◌, List, [], ◌∷◌, ◌++◌, take, refl, sym, ◌∙◌}
+use Rattle.std.proofs.Common.{◌≡◌, ℕ, Bool, true, false, ◌||◌, ◌==◌, List, [], ◌∷◌, ◌++◌, take, refl, sym, ◌∙◌}
 use Rattle.std.specs.List.{list_all, prefix_len}
 use Rattle.std.proofs.Math.Numerals.{one-add}
 use Rattle.std.proofs.lemmas.List.{append-nil, append_assoc}
 use Rattle.db_model.specs.Pieces.{ended_by, piece_behind, quoted_behind}
 use Rattle.db_model.specs.Script.{ends_piece, quoted_after}
 use Rattle.run_script.specs.Gathers.{is_plain}
-use Rattle.padded.proofs.Facts.{both_parts, by_truth, neither}
-
-not_so : (a : Bool) → not a ≡ true → a ≡ false
-not_so true e = cc
-not_so false e = refl
+use Rattle.padded.proofs.Facts.{both_parts, by_truth, neither, untrue as not_so}
 
 plain_ends : (quoted : Bool) (b : ℕ) → is_plain quoted b ≡ true → ends_piece quoted b ≡ false
 plain_ends true b e = refl

@@ -12,7 +12,7 @@ use Rattle.db_model.specs.Plan.{kinds_of, plan, ranges_of}
 use Rattle.db_model.specs.Row.{Row, no_row}
 use Rattle.index_set.specs.declared.info.IndexInfo.{IndexInfo}
 use Rattle.index_set.specs.Plans.{is_passed, kinds, slots_passed}
-use Rattle.index_set.specs.Walks.{ahead, walk_of}
+use Rattle.index_set.specs.Walks.{ahead, walk_of_search}
 use Rattle.cursor.specs.declared.join.JoinCursor.{JoinCursor}
 use Rattle.cursor.specs.Pairs.{lefts_of, matching, rights_of}
 use Rattle.cursor.specs.Remaining.{is_live_and, selected_slots, slots_to_answer}
@@ -42,7 +42,7 @@ moved {u = u} {xs = xs} P same equal p = subst (λ (l : List IndexInfo). P u l) 
 -- ---- a SELECT
 
 pub select_begun : (files : Table) (o : OpenSelect) (t : Tuples) (infos : List IndexInfo) (condition : Option Cond) → o.cursor.tuples ≡ t
-    → walk_of o.cursor.candidates.search ≡ model.walk_of (kinds infos) (plan (kinds infos) (ranges_of t.schema.attributes condition))
+    → walk_of_search o.cursor.candidates.search ≡ model.walk_of (kinds infos) (plan (kinds infos) (ranges_of t.schema.attributes condition))
     → ahead o.cursor.candidates (rows files t) ≡ slots_passed (kinds infos) (ranges_of t.schema.attributes condition) (length (rows files t)) (rows files t)
     → slots_to_answer o.cursor (rows files t) ≡ selected_slots t.schema.attributes condition (rows files t)
     → ahead_of_select files o ≡ model.select_ahead t.schema.name (kinds infos) (ranges_of t.schema.attributes condition) (relation_of_rows files t) condition

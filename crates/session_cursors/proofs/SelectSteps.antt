@@ -10,7 +10,7 @@ use Rattle.db_model.specs.Row.{Row, no_row}
 use Rattle.index_set.specs.declared.candidates.Candidates.{Candidates}
 use Rattle.index_set.specs.declared.candidates.Search.{Search}
 use Rattle.index_set.specs.declared.candidates.Search.TheVariants as by
-use Rattle.index_set.specs.Walks.{ahead, cost_ahead, reads_by, search_takes, walk_of}
+use Rattle.index_set.specs.Walks.{ahead, cost_ahead, reads_by, search_takes, walk_of_search}
 use Rattle.cursor.specs.declared.select.SelectCursor.{SelectCursor}
 use Rattle.cursor.specs.Remaining.{is_live_and, next_cost, passes_code, slots_to_answer}
 use Rattle.tuple_file.specs.declared.tuples.Tuples.{Tuples}
@@ -80,18 +80,18 @@ module _ (files : Table) (o : OpenSelect) (d : SelectCursor) (tuples : d.tuples 
       let ss : ahead d.candidates (rows files d.tuples) ≡ after (slots_to_answer o.cursor (rows files o.cursor.tuples)) before = none ∙ sym (ap (λ (l : List ℕ). after l before) e) in
       let ts : slots_to_answer d (rows files d.tuples) ≡ drop 1 (slots_to_answer o.cursor (rows files o.cursor.tuples)) =
       ap (filter (λ slot. is_live_and (passes_code d.code) (get_or (rows files d.tuples) slot no_row))) none ∙ sym (ap (drop 1) e) in
-      λ i. record { source = OfSelect (tuples i).schema.name (walk_of (search i)); slots = ss i; stops = ts i }
+      λ i. record { source = OfSelect (tuples i).schema.name (walk_of_search (search i)); slots = ss i; stops = ts i }
   ahead_then (Some slot) e from =
       let ss : ahead d.candidates (rows files d.tuples) ≡ after (slots_to_answer o.cursor (rows files o.cursor.tuples)) before =
       own_slots ∙ sym (behind_stop o.cursor d (rows files o.cursor.tuples) search slots slot (slots_to_answer d (rows files o.cursor.tuples)) from e) ∙ sym (ap (λ (l : List ℕ). after l before) e) in
       let ts : slots_to_answer d (rows files d.tuples) ≡ drop 1 (slots_to_answer o.cursor (rows files o.cursor.tuples)) = own_stops ∙ sym (ap (drop 1) e) in
-      λ i. record { source = OfSelect (tuples i).schema.name (walk_of (search i)); slots = ss i; stops = ts i }
+      λ i. record { source = OfSelect (tuples i).schema.name (walk_of_search (search i)); slots = ss i; stops = ts i }
 
 -- ---- what is read
 
 -- a walk that has passed so many of its slots
 within_price : (s : Search) (d : Candidates) (all : List Row) (k m n reads reads_now : ℕ) → n ≡ k + m
-    → reads_now + (6 * m + reads_by s d.place all m) ≤ reads + (6 * n + reads_by s None all n) → reads_now ≤ reads + fetch_select_cost (walk_of s) all k
+    → reads_now + (6 * m + reads_by s d.place all m) ≤ reads + (6 * n + reads_by s None all n) → reads_now ≤ reads + fetch_select_cost (walk_of_search s) all k
 within_price by.Nothing d all k m n reads reads_now e h = omega (arith, e, h)
 within_price by.Scan d all k m n reads reads_now e h = omega (arith, e, h)
 within_price (by.Order attribute range) d all k m n reads reads_now e h = omega (arith, e, h)
@@ -99,10 +99,10 @@ within_price (by.Tree attribute file key) d all k m n reads reads_now e h = omeg
 within_price (by.Table attribute number key) d all k m n reads reads_now e h = omega (arith, e, h)
 
 -- a walk that failed before its next slot
-failed_price : (s : Search) (c : Candidates) (all : List Row) (k reads reads_now : ℕ) → c.place ≡ None → reads_now ≤ reads + (6 * k + reads_by s c.place all k) → reads_now ≤ reads + fetch_select_cost (walk_of s) all k
+failed_price : (s : Search) (c : Candidates) (all : List Row) (k reads reads_now : ℕ) → c.place ≡ None → reads_now ≤ reads + (6 * k + reads_by s c.place all k) → reads_now ≤ reads + fetch_select_cost (walk_of_search s) all k
 failed_price s c all k reads reads_now rests h = by_search s (subst (λ p. reads_now ≤ reads + (6 * k + reads_by s p all k)) rests h)
   where
-    by_search : (t : Search) → reads_now ≤ reads + (6 * k + reads_by t None all k) → reads_now ≤ reads + fetch_select_cost (walk_of t) all k
+    by_search : (t : Search) → reads_now ≤ reads + (6 * k + reads_by t None all k) → reads_now ≤ reads + fetch_select_cost (walk_of_search t) all k
     by_search by.Nothing g = omega (arith, g)
     by_search by.Scan g = omega (arith, g)
     by_search (by.Order attribute range) g = omega (arith, g)
@@ -110,7 +110,7 @@ failed_price s c all k reads reads_now rests h = by_search s (subst (λ p. reads
     by_search (by.Table attribute number key) g = omega (arith, g)
 
 pub read_failed : (c : SelectCursor) (all : List Row) (reads reads_now : ℕ) → c.candidates.place ≡ None → reads_now ≤ reads + next_cost c all
-    → reads_now ≤ reads + fetch_select_cost (walk_of c.candidates.search) all (length (passed (slice_get (slots_to_answer c all) 0) (ahead c.candidates all)))
+    → reads_now ≤ reads + fetch_select_cost (walk_of_search c.candidates.search) all (length (passed (slice_get (slots_to_answer c all) 0) (ahead c.candidates all)))
 read_failed c all reads reads_now rests h =
     failed_price c.candidates.search c.candidates all (length (passed (slice_get (slots_to_answer c all) 0) (ahead c.candidates all))) reads reads_now rests h
 
@@ -133,7 +133,7 @@ module _ (c d : SelectCursor) (all : List Row) (search : d.candidates.search ≡
   pub read_few : (found : Option ℕ) (reads reads_now : ℕ) → MatchOption found (slots_to_answer c all ≡ []) (λ slot. slots_to_answer c all ≡ slot ∷ slots_to_answer d all)
       → MatchOption found (d.candidates.from ≡ d.candidates.slots) (λ slot. d.candidates.from ≡ slot + 1)
       → reads_now + cost_ahead d.candidates all ≤ reads + cost_ahead c.candidates all
-      → reads_now ≤ reads + fetch_select_cost (walk_of c.candidates.search) all (length (passed (slice_get (slots_to_answer c all) 0) (ahead c.candidates all)))
+      → reads_now ≤ reads + fetch_select_cost (walk_of_search c.candidates.search) all (length (passed (slice_get (slots_to_answer c all) 0) (ahead c.candidates all)))
   read_few found reads reads_now e from h =
       let is : cost_ahead d.candidates all ≡ 6 * length (ahead d.candidates all) + reads_by c.candidates.search d.candidates.place all (length (ahead d.candidates all)) =
       ap (λ (s : Search). 6 * length (ahead d.candidates all) + reads_by s d.candidates.place all (length (ahead d.candidates all))) search in

@@ -53,7 +53,7 @@ use Rattle.session_model.proofs.Sound.{seen, trees_there}
 use Rattle.session_model.proofs.Written.{index_written}
 use Rattle.session_indexes.specs.declared.sites.Site.{Site}
 use Rattle.session_indexes.specs.Made.{IsReadyFor, index_for, keys_at}
-use Rattle.session_indexes.specs.Parts.{MayMake, MayPut, MayTake}
+use Rattle.session_indexes.specs.Parts.{MayMake, MayPut, MayTakeIndexSlot}
 use Rattle.session_indexes.proofs.MendedIndexes.{reads_put}
 
 module _ (old : State) (tables : Tables) (held : Held) (opens : List (Option Open)) (r : IsRunning old tables held opens) (told : IsTrue old.tells) (s : IsSoundDatabase (view old.files held opens))
@@ -218,7 +218,7 @@ module _ (old : State) (tables : Tables) (held : Held) (opens : List (Option Ope
 
   -- ---- an index that was being taken away
 
-  pub take_table : (x : Index) → get_or (map (option_map index_known) held.indexes) slot None ≡ Some x → MayTake old after cat slot → IsSoundDatabase (record (with_index (view old.files held opens) slot None) { version = 2 })
+  pub take_table : (x : Index) → get_or (map (option_map index_known) held.indexes) slot None ≡ Some x → MayTakeIndexSlot old after cat slot → IsSoundDatabase (record (with_index (view old.files held opens) slot None) { version = 2 })
       → IsEither (view old.files held opens) (with_index (view old.files held opens) slot None) (mended_base after.files) → IsCutTable after.files
   take_table x at (inl p) sound either = ⊎_elim
       (λ same. same_table (leaves_spares old after cat catalog_file catalog_named p.0) named beside same long)

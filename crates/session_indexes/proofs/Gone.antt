@@ -35,7 +35,7 @@ use Rattle.session_model.proofs.Running.{catalog_no_tree, differ, index_there, r
 use Rattle.session_model.proofs.Wanted.{relation_seen, wants_catalog}
 use Rattle.session_indexes.specs.declared.removing.Standing.{Standing}
 use Rattle.session_indexes.specs.Made.{AsksIndexSlot}
-use Rattle.session_indexes.specs.Parts.{MayTake}
+use Rattle.session_indexes.specs.Parts.{MayTakeIndexSlot}
 use Rattle.session_indexes.specs.Removed.{IsRemovable, IsTaken}
 use Rattle.session_model.specs.Indexed.{index_known}
 use Rattle.session_model.proofs.Sound.{seen}
@@ -106,7 +106,7 @@ module _ (s0 : State) (tables : Tables) (held : Held) (opens : List (Option Open
   unfolding made
   may_go = ok_by _ (record (with_index (view s0.files held opens) standing.slot None) { version = 2 }) Fine made
 
-  pub taken_in_part : {mends : List ℕ → Table → Type 0} {store : List ℕ} → IsTrue s0.tells → IsSoundDatabase (view s0.files held opens) → MendsToState mends store (λ after. MayTake s0 after cat standing.slot)
+  pub taken_in_part : {mends : List ℕ → Table → Type 0} {store : List ℕ} → IsTrue s0.tells → IsSoundDatabase (view s0.files held opens) → MendsToState mends store (λ after. MayTakeIndexSlot s0 after cat standing.slot)
       → MendsToDatabase mends store (IsBetween (view s0.files held opens) (command.RemoveIndex name attribute))
   unfolding made
   taken_in_part told sound m =

@@ -37,7 +37,7 @@ use Rattle.session_model.proofs.ReadAs.{running_alike}
 use Rattle.session_model.proofs.Running.{catalog_no_rows, catalog_no_tree, row_no_tree, trees_apart}
 use Rattle.session_indexes.specs.declared.sites.Site.{Site}
 use Rattle.session_indexes.specs.Made.{IsReadyFor, index_for}
-use Rattle.session_indexes.specs.Parts.{MayMake, MayPut, MayTake}
+use Rattle.session_indexes.specs.Parts.{MayMake, MayPut, MayTakeIndexSlot}
 
 -- ---- a slot that was put
 
@@ -157,7 +157,7 @@ module _ (s0 : State) (tables : Tables) (held : Held) (opens : List (Option Open
       (λ tree. ap is_some (named_found after.files file (tree_file site.slot) (p.leaves.distinct r.distinct) p.named)))
   make_between t site MemHash ready none p = put_between s0 tables held opens r told cat has site.slot (Some (index_for site MemHash)) ready.slot after p (λ tree. absurd (cc))
 
-  pub take_between : (slot : ℕ) → slot < 8 → MayTake s0 after cat slot
+  pub take_between : (slot : ℕ) → slot < 8 → MayTakeIndexSlot s0 after cat slot
       → IsEither (view s0.files held opens) (with_index (view s0.files held opens) slot None) (mended_base after.files)
   take_between slot below (inl p) = put_between s0 tables held opens r told cat has slot None below after p (λ tree. absurd (cc))
   take_between slot below (inr k) = inr (whole_between s0 tables held opens r told cat has slot None below after k.leaves k.bytes (λ tree. absurd (cc)))

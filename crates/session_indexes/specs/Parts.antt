@@ -33,5 +33,5 @@ pub record IsMadeInPart (old after : State) (xs : List (Option Indexed)) (cat : 
   pub left : MayMake old after cat t site kind
 
 -- the catalog was being changed, or the slot is empty and no file has the name of its tree
-abbrev pub MayTake : (old after : State) (cat slot : ℕ) → Type 0
-MayTake old after cat slot = MayPut old after cat slot None ⊎ IsTaken old after cat slot
+abbrev pub MayTakeIndexSlot : (old after : State) (cat slot : ℕ) → Type 0
+MayTakeIndexSlot old after cat slot = MayPut old after cat slot None ⊎ IsTaken old after cat slot

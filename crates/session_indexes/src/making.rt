@@ -26,7 +26,7 @@ use crate::slots::put_entry;
 use crate::tables::{free_table, is_crowded};
 use crate::trees::add_tree;
 use afl_base::{Failed, FileError, FileId, Files};
-use db_model::{IndexKind, Pool, Refusal};
+use db_model::{IndexKind, MOST_TABLES, Pool, Refusal};
 use index_inline::ordered;
 use index_set::{Access, HashTables, MOST_KEYS};
 use session_model::{Held, Indexed};
@@ -156,7 +156,7 @@ fn make_table<V: Files>(
     let Some(table) = free_table(indexes) else {
         return Ok(Err(Refusal::Full {
             pool: Pool::HashTables,
-            limit: 2,
+            limit: MOST_TABLES,
         }));
     };
     let slots = tuples.count(files);

@@ -16,7 +16,7 @@ ghost use Rattle.session_model.specs.Frames.{AsksNoExtent};
 ghost use Rattle.session_model.specs.Running.{HasCatalogFile, HasFile};
 ghost use Rattle.session_model.specs.View.{view};
 ghost use Rattle.session_indexes.specs.Made.{AsksIndexSlot};
-ghost use Rattle.session_indexes.specs.Parts.{MayTake};
+ghost use Rattle.session_indexes.specs.Parts.{MayTakeIndexSlot};
 ghost use Rattle.session_indexes.specs.Removed.{IsRemovable, IsTaken};
 
 use crate::relations::relation_named;
@@ -89,7 +89,7 @@ fn take_index<V: Files>(
         SparesWhere V.is_free (asks (1408 + 8 * slot) 8) (V.state files.old) (V.state files.new) result }
     ensures cut { let old = V.state files.old in
         CutLeaves V.cuts V.mends V.state files.old files.new (WhereFailed result)
-        (λ after. MayTake old after cat slot) }
+        (λ after. MayTakeIndexSlot old after cat slot) }
     ensures frame { ChangesOrLacks V.state V.lent V.reads V.faults V.lacks files.old files.new result }
 {
     match clear_entry(files, cat, slot) {

@@ -20,7 +20,7 @@ use Rattle.session_model.specs.declared.held.Held.{Held}
 use Rattle.session_model.specs.declared.held.Indexed.{Indexed}
 use Rattle.session_model.specs.declared.held.Open.{Open}
 use Rattle.session_model.specs.declared.held.Open.TheVariants.{Select, Join}
-use Rattle.session_model.specs.Aheads.{ahead_in, aheads_of, join_stops, walk_of}
+use Rattle.session_model.specs.Aheads.{ahead_in, aheads_of, join_stops, walk_of_search}
 use Rattle.session_model.specs.Frames.{LeavesOthers, with_indexed, with_tuples}
 use Rattle.session_model.specs.Running.{IsCursorSlot, IsRunning, ReadsRows}
 use Rattle.session_model.proofs.Catalogs.{IndexChanges, RelationChanges, StaysFor, index_stays, relation_stays, same_rows_grow}
@@ -62,7 +62,7 @@ ahead_stays old new held (Select o) told h grow =
     made : ahead o.cursor.candidates (rows new.files o.cursor.tuples) ≡ ahead o.cursor.candidates (rows old.files o.cursor.tuples)
         → slots_to_answer o.cursor (rows new.files o.cursor.tuples) ≡ slots_to_answer o.cursor (rows old.files o.cursor.tuples)
         → ahead_in new.files (Select o) ≡ ahead_in old.files (Select o)
-    made a b = λ i. record { source = OfSelect o.cursor.tuples.schema.name (walk_of o.cursor.candidates.search); slots = a i; stops = b i }
+    made a b = λ i. record { source = OfSelect o.cursor.tuples.schema.name (walk_of_search o.cursor.candidates.search); slots = a i; stops = b i }
 ahead_stays old new held (Join o) told h grow =
     ap (λ (stops : List ℕ). record {
       source = OfJoin o.cursor.left.schema.name o.cursor.right.schema.name (o.cursor.left_on, o.cursor.right_on) (kinds o.cursor.right_indexes);

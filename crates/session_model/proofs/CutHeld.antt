@@ -1,7 +1,7 @@
 -- The files of a session that runs over a sound database, and what of them a cut in the middle of a command leaves.
-use Rattle.std.proofs.Common.{◌≡◌, ◌≢◌, ◌⊎◌, inl, inr, ⊎_elim, ℕ, zero, suc, ◌+◌, ◌*◌, ◌<◌, ◌≤◌, Bool, true, false, not, ◌&&◌, ◌==◌, List, [], ◌∷◌, if◌then◌else◌, length, map, get_or, Option, Some, None, refl, ap, sym, subst, ◌∙◌, arith, IsTrue}
+use Rattle.std.proofs.Common.{◌≡◌, ◌≢◌, ◌⊎◌, inl, inr, ⊎_elim, ℕ, ◌+◌, ◌*◌, ◌<◌, ◌≤◌, Bool, true, false, not, ◌&&◌, ◌==◌, List, [], ◌∷◌, if◌then◌else◌, length, map, get_or, Option, Some, None, refl, ap, sym, subst, ◌∙◌, arith, IsTrue}
 use Rattle.std.specs.Prelude.{ℤ, is_some, option_map, slice_range}
-use Rattle.std.specs.List.{list_any, range_with_len}
+use Rattle.std.specs.List.{list_any}
 use Rattle.std.specs.Option.{option_map_or}
 use Rattle.std.proofs.lemmas.Bool.{cases_eq}
 use Rattle.std.proofs.lemmas.List.{nil_from_length}
@@ -11,7 +11,7 @@ use Rattle.afl_base.specs.Files.{IsNamed, State, Table, bytes_at, file_at}
 use Rattle.afl_base.specs.Frames.{SparesOthers}
 use Rattle.afl_base.proofs.FileLaws.{named_live, place_live}
 use Rattle.catalog.specs.CatalogFile.{IsCatalogSize}
-use Rattle.catalog.specs.Rules.{catalog_bytes_in, catalog_in, has_form, is_tree}
+use Rattle.catalog.specs.Rules.{catalog_bytes_in, has_form, is_tree}
 use Rattle.catalog.proofs.Named.{named_found, named_none}
 use Rattle.db_model.specs.declared.commands.Command.{Command}
 use Rattle.db_model.specs.declared.schemas.Attribute.{Attribute}
@@ -29,7 +29,7 @@ use Rattle.index_set.specs.Tables.{Tables}
 use Rattle.padded.proofs.Facts.{none_some, seen_at, some_inside, some_same}
 use Rattle.space_model.specs.Enough.{rows_in}
 use Rattle.space_model.specs.FileNames.{bytes_in_file, bytes_named, catalog_file, file_named, is_there, rows_file, tree_file}
-use Rattle.stored.specs.CutTables.{HasMark, HoldsRowsOr, IsCutTable, IsHalfDone, IsIndexWhile, index_read, relation, slot_bytes}
+use Rattle.stored.specs.CutTables.{HasMark, HoldsRowsOr, IsCutTable, IsIndexWhile, index_read, relation, slot_bytes}
 use Rattle.stored.specs.Mended.{has_time, mended_base, mended_catalog, mended_version, standing, whole_bytes, whole_catalog}
 use Rattle.stored.specs.Sound.{IsIndexComplete, IsSoundTable}
 use Rattle.stored.specs.declared.half.Half.{Half}
@@ -53,7 +53,7 @@ use Rattle.session_model.specs.View.{relation_of_rows, view}
 use Rattle.session_model.proofs.Catalogs.{catalog_there}
 use Rattle.session_model.proofs.CutCatalogs.{catalog_is as catalog_bytes, rows_kept as rows_bytes_kept, rows_there_kept, tree_bytes_kept, tree_kept}
 use Rattle.session_model.proofs.CutSlots.{HoldsFiles, HoldsSlots, IsInPart, half_by, schema_of}
-use Rattle.session_model.proofs.ReadAs.{catalog_here, catalog_stays, read_alike, read_spared, running_alike}
+use Rattle.session_model.proofs.ReadAs.{catalog_here, catalog_stays, mapped_length as mapped, read_alike, read_spared, running_alike}
 use Rattle.session_model.proofs.Rules.{stranger_none}
 use Rattle.session_model.proofs.Running.{bytes_by, distinct_spared, index_there, known_spared, named_spared, relation_there, row_no_tree, rows_apart, rows_stay, tree_stays, trees_apart, unnamed_spared}
 use Rattle.session_model.proofs.Sound.{base_is, catalog_is, catalog_seen, files_sound, index_kept, listed_by, named_bytes, rows_kept, rows_there, seen, seen_back, size_held, trees_there}
@@ -80,10 +80,6 @@ pub schemas_seen : (files : Table) (ts : List (Option Tuples)) → map (option_m
 schemas_seen files [] = refl
 schemas_seen files (None ∷ ts) = ap (λ os. None ∷ os) (schemas_seen files ts)
 schemas_seen files (Some t ∷ ts) = ap (λ os. Some t.schema ∷ os) (schemas_seen files ts)
-
-mapped : {A B : Type 0} (f : A → B) (xs : List A) → length (map f xs) ≡ length xs
-mapped f [] = refl
-mapped f (x ∷ xs) = ap suc (mapped f xs)
 
 -- the version of a table is 1 or 2
 pub one_or_two : (files : Table) → ((mended_catalog files).version ≡ 1) ⊎ ((mended_catalog files).version ≡ 2)

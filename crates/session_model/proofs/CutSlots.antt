@@ -1,28 +1,28 @@
 -- Files whose catalog has the slots of a sound database, but for one thing that is half done.
-use Rattle.std.proofs.Common.{◌≡◌, ◌⊎◌, inl, inr, ⊎_elim, ℕ, zero, suc, ◌+◌, ◌-◌, ◌*◌, ◌<◌, ◌≤◌, Bool, true, false, not, ◌&&◌, ◌||◌, ◌==◌, List, [], ◌∷◌, length, map, take, drop, get_or, Option, Some, None, if◌then◌else◌, refl, ap, sym, subst, ◌∙◌, arith}
+use Rattle.std.proofs.Common.{◌≡◌, ◌⊎◌, inl, inr, ⊎_elim, ℕ, zero, suc, ◌+◌, ◌-◌, ◌*◌, ◌<◌, ◌≤◌, Bool, true, false, ◌&&◌, ◌||◌, ◌==◌, List, [], ◌∷◌, length, map, take, get_or, Option, Some, None, if◌then◌else◌, refl, ap, sym, subst, ◌∙◌, arith}
 use Rattle.std.specs.Prelude.{is_some, option_map, slice_get, slice_range}
-use Rattle.std.specs.List.{AllByRecursion, list_any, range_with_len}
+use Rattle.std.specs.List.{AllByRecursion, list_any}
 use Rattle.std.specs.Str.{bytes_eq}
-use Rattle.std.proofs.lemmas.List.{take-take, take_all}
 use Rattle.std.proofs.lemmas.List.FromFn.{get_or-map-range_with_len}
 use Rattle.std.proofs.lemmas.Slice.Eq.{bytes_eq-Decides}
 use Rattle.afl_base.specs.Files.{Table}
-use Rattle.catalog.specs.Rules.{breaks_index, catalog_bytes_in, has_form, has_name, is_behind, is_index_form, is_named_among, is_relation_slot, is_same_place, is_schema, is_sound_index, is_third_table, is_tree, stands_on}
+use Rattle.catalog.specs.Rules.{breaks_index, catalog_bytes_in, has_name, is_behind, is_index_form, is_named_among, is_same_place, is_schema, is_sound_index, is_surplus_table, is_tree, stands_on}
 use Rattle.db_model.specs.declared.schemas.Attribute.{Attribute}
 use Rattle.db_model.specs.declared.schemas.Domain.TheVariants.{Time}
 use Rattle.db_model.specs.declared.schemas.Schema.{Schema}
-use Rattle.db_model.specs.Catalog.{Index, catalog_of, index_at, index_slot_bytes, relation_at, relation_slot_bytes, version_mark, version_of}
+use Rattle.db_model.specs.Catalog.{Index, catalog_of, index_at, index_slot_bytes, relation_slot_bytes, version_of}
 use Rattle.db_model.specs.Database.{Database, Relation, is_on}
 use Rattle.db_model.specs.Sound.{IsSoundAttribute, IsSoundDatabase, IsSoundSchema}
 use Rattle.db_model.specs.Step.{allows, keys}
 use Rattle.padded.proofs.Facts.{both_parts, both_true, bytes_eq_same, either_right, false_by, some_inside, true_eq}
+use Rattle.session_model.proofs.Running.{or_left as first_true}
 use Rattle.space_model.specs.Enough.{rows_in}
 use Rattle.space_model.specs.FileNames.{bytes_named, is_there, rows_file, tree_file}
 use Rattle.stored.specs.CutTables.{HasMark, HoldsRowsOr, IsEmptiedInPart, IsGrownInPart, IsHalfDone, IsIndexWhile, IsSlot, index_read, relation, slot_bytes}
 use Rattle.stored.specs.Mended.{has_time, is_time_domain, mended_base, mended_catalog, whole_catalog}
 use Rattle.stored.specs.declared.half.Half.{Half}
 use Rattle.stored.specs.declared.half.Half.TheVariants.{Emptying, Growing, LoneRows, LoneTree, Treeless}
-use Rattle.session_model.proofs.Rules.{index_slot_true, no_third_table, none_any, not_true, schema_true}
+use Rattle.session_model.proofs.Rules.{index_slot_true, no_surplus_table, none_any, not_true, schema_true}
 use Rattle.session_model.proofs.Sound.{seen, seen_back}
 
 -- ---- what of the catalog is so
@@ -57,10 +57,6 @@ pub record HoldsFiles (files : Table) (half : Half) : Type 0 where
       → IsIndexWhile half index (bytes_named (tree_file i) files) (keys index.attribute (rows_in (mended_base files) index.relation))
 
 -- ---- a TIME wants version 2
-
-first_true : (a b : Bool) → a ≡ true → (a || b) ≡ true
-first_true true b e = refl
-first_true false b e = cc
 
 all_at : (v w : ℕ) (attributes : List Attribute) → AllByRecursion (IsSoundAttribute v) attributes → (list_any (λ (a : Attribute). is_time_domain a.domain) attributes ≡ true → w ≡ 2)
     → AllByRecursion (IsSoundAttribute w) attributes
@@ -170,7 +166,7 @@ module _ (files : Table) (half : Half) (db : Database) (h : HoldsSlots files hal
         omega (arith, inside, h.sound.eight_relations),
         ap (stands_on index) stands ∙ stands_true index sound.relation.schema sound.suits.attribute sound.suits.placed sound.suits.allowed,
         subst (λ xs. list_any (is_same_place index) (take i xs) ≡ false) (sym h.indexes) (alone i index at),
-        subst (λ xs. is_third_table (take i xs) index ≡ false) (sym h.indexes) (no_third_table db.indexes i index at h.sound.few_tables),
+        subst (λ xs. is_surplus_table (take i xs) index ≡ false) (sym h.indexes) (no_surplus_table db.indexes i index at h.sound.few_tables),
       )) in
       not_true (is_sound_index slot read (take i indexes_read)) now
 

@@ -8,7 +8,7 @@ use Rattle.std.proofs.lemmas.Bool.{cases_lt}
 use Rattle.std.proofs.lemmas.Bool.Decides.{nat_tests}
 use Rattle.afl_base.specs.Files.{File, Table, place}
 use Rattle.catalog.specs.CatalogFile.{IsCatalogSize}
-use Rattle.catalog.specs.Rules.{breaks_files, differ, first, has_form, has_name, how_many, is_attribute_slot, is_behind, is_domain, is_index_form, is_named_among, is_of_database, is_relation_slot, is_row, is_same_place, is_schema, is_stranger, is_table, is_third_table, is_tree, stands_on}
+use Rattle.catalog.specs.Rules.{breaks_files, differ, first, has_form, has_name, how_many, is_attribute_slot, is_behind, is_domain, is_index_form, is_named_among, is_of_database, is_relation_slot, is_row, is_same_place, is_schema, is_stranger, is_table, is_surplus_table, is_tree, stands_on}
 use Rattle.db_model.specs.declared.schemas.Attribute.{Attribute}
 use Rattle.db_model.specs.declared.schemas.Domain.{Domain}
 use Rattle.db_model.specs.declared.schemas.Domain.TheVariants.{Int, Long, Time, Str}
@@ -110,8 +110,8 @@ tables_counted (Some y ∷ xs) (suc k) x e t = counted (is_hash_table y) (how_ma
     counted true n rest h = omega (arith, h)
     counted false n rest h = h
 
-pub no_third_table : (xs : List (Option Index)) (k : ℕ) (x : Index) → get_or xs k None ≡ Some x → length (filter is_hash_table (used_things xs)) ≤ 2 → is_third_table (take k xs) x ≡ false
-no_third_table xs k x e few = by_kind (is_hash_table x) refl
+pub no_surplus_table : (xs : List (Option Index)) (k : ℕ) (x : Index) → get_or xs k None ≡ Some x → length (filter is_hash_table (used_things xs)) ≤ 2 → is_surplus_table (take k xs) x ≡ false
+no_surplus_table xs k x e few = by_kind (is_hash_table x) refl
   where
     fewer : (n : ℕ) → n + 1 ≤ 2 → nat_le 2 n ≡ false
     fewer n h = grind (arith, nat_tests)
@@ -122,14 +122,14 @@ no_third_table xs k x e few = by_kind (is_hash_table x) refl
 
 -- a slot that is written for no index, or for one that may stand behind those before it
 pub index_slot_true : (slot : List ℕ) (relations : List (Option Schema)) (before : List (Option Index)) (o : Option Index) → slot ≡ index_slot_bytes o
-    → ((x : Index) → o ≡ Some x → (x.relation < 8) × (stands_on x (get_or relations x.relation None) ≡ true) × (list_any (is_same_place x) before ≡ false) × (is_third_table before x ≡ false))
+    → ((x : Index) → o ≡ Some x → (x.relation < 8) × (stands_on x (get_or relations x.relation None) ≡ true) × (list_any (is_same_place x) before ≡ false) × (is_surplus_table before x ≡ false))
     → (is_index_form slot o && is_behind relations before o) ≡ true
 index_slot_true slot relations before None e h = both_true (bytes_eq slot (index_slot_bytes None)) true (bytes_eq_same slot (index_slot_bytes None) e) refl
 index_slot_true slot relations before (Some x) e h =
     let here = h x refl in
     let stands : Bool = stands_on x (get_or relations x.relation None) in
     let same : Bool = list_any (is_same_place x) before in
-    let third : Bool = is_third_table before x in
+    let third : Bool = is_surplus_table before x in
     both_true (nat_lt x.relation 8 && bytes_eq slot (index_slot_bytes (Some x))) (stands && not same && not third)
     (both_true (nat_lt x.relation 8) (bytes_eq slot (index_slot_bytes (Some x))) (lt_true x.relation 8 here.0) (bytes_eq_same slot (index_slot_bytes (Some x)) e))
     (both_true (stands && not same) (not third) (both_true stands (not same) here.1 (not_false same here.2)) (not_false third here.3))

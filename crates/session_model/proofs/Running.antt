@@ -415,7 +415,7 @@ true≢false e = cc
 some_open : (c o : Open) → Some c ≡ Some o → c ≡ o
 some_open c o e = cc
 
-or_left : (a b : Bool) → a ≡ true → (a || b) ≡ true
+pub or_left : (a b : Bool) → a ≡ true → (a || b) ≡ true
 or_left true b e = refl
 or_left false b e = absurd (cc)
 

@@ -10,7 +10,7 @@ use Rattle.std.proofs.lemmas.List.FromFn.{get_or-map-range_with_len, length-map-
 use Rattle.std.proofs.lemmas.Slice.Eq.{bytes_eq-Decides}
 use Rattle.afl_base.specs.Files.{IsNamed, IsUnnamed, State, Table, bytes_at}
 use Rattle.catalog.specs.CatalogFile.{IsCatalogSize}
-use Rattle.catalog.specs.Rules.{breaks_files, breaks_index, breaks_relation, broken_catalog, catalog_bytes_in, catalog_in, first, first_broken, has_name, is_behind, is_index_form, is_named_among, is_relation_slot, is_same_place, is_schema, is_sound_index, is_sound_relation, is_third_table, is_tree, stands_on}
+use Rattle.catalog.specs.Rules.{breaks_files, breaks_index, breaks_relation, broken_catalog, catalog_bytes_in, catalog_in, first, first_broken, has_name, is_behind, is_index_form, is_named_among, is_relation_slot, is_same_place, is_schema, is_sound_index, is_sound_relation, is_surplus_table, is_tree, stands_on}
 use Rattle.catalog.proofs.Breaks.{breaks_none, breaks_nothing, empty_breaks_none}
 use Rattle.catalog.proofs.Named.{named_none}
 use Rattle.db_model.specs.declared.schemas.Attribute.{Attribute}
@@ -42,7 +42,7 @@ use Rattle.session_model.specs.Running.{HasCatalogFile, HasFile, IsIndexSlot, Is
 use Rattle.session_model.specs.View.{relation_of_rows, view}
 use Rattle.session_model.proofs.Grown.{no_bytes}
 use Rattle.padded.proofs.Facts.{both_parts, false_by, some_same, true_eq, some_inside}
-use Rattle.session_model.proofs.Rules.{files_used, formed, index_slot_true, no_strangers, no_third_table, none_any, not_true, relation_slot_true, schema_true}
+use Rattle.session_model.proofs.Rules.{files_used, formed, index_slot_true, no_strangers, no_surplus_table, none_any, not_true, relation_slot_true, schema_true}
 use Rattle.session_model.proofs.Running.{index_there, relation_there}
 use Rattle.session_model.proofs.Wanted.{by_name, bytes_by_name}
 use Rattle.stored.proofs.SameBase.{first_nothing}
@@ -209,12 +209,12 @@ module _ (state : State) (tables : Tables) (held : Held) (opens : List (Option O
         ap (stands_on (index_known x)) (seen schema_in held.relations x.relation t.from t.there)
         ∙ stands_true (index_known x) t.from.schema sound.suits.attribute
         (ap (λ (z : Relation). slice_get z.schema.attributes x.attribute) t.is ∙ sound.suits.placed) sound.suits.allowed in
-        let P : Index → Type 0 = λ z. (z.relation < 8) × (stands_on z (get_or relations z.relation None) ≡ true) × (list_any (is_same_place z) before ≡ false) × (is_third_table before z ≡ false) in
+        let P : Index → Type 0 = λ z. (z.relation < 8) × (stands_on z (get_or relations z.relation None) ≡ true) × (list_any (is_same_place z) before ≡ false) × (is_surplus_table before z ≡ false) in
         subst P from.is (
           omega (arith, some_inside held.relations x.relation t.from t.there, r.eight),
           stands,
           index_alone i x from.there,
-          no_third_table (map (option_map index_known) held.indexes) i (index_known x) (seen index_known held.indexes i x from.there) s.few_tables,
+          no_surplus_table (map (option_map index_known) held.indexes) i (index_known x) (seen index_known held.indexes i x from.there) s.few_tables,
         )) in
         not_true (is_sound_index slot (catalog_of bytes_held).relations (take i (catalog_of bytes_held).indexes))
         (ap (λ (c : Slots). is_sound_index slot c.relations (take i c.indexes)) (r.listed told) ∙ now)

@@ -12,7 +12,7 @@ use Rattle.db_model.specs.Row.{row_length}
 use Rattle.db_model.specs.Step.{keys}
 use Rattle.index_maxheap.specs.declared.rooms.End.{End}
 use Rattle.index_maxheap.specs.declared.rooms.End.TheVariants as end
-use Rattle.index_maxheap.specs.Rooms.{end_at, room_for as room_at_end, room_of}
+use Rattle.index_maxheap.specs.Rooms.{end_at, room_at as room_at_end, room_of}
 use Rattle.index_set.specs.declared.info.Access.{Access}
 use Rattle.index_set.specs.declared.info.Access.TheVariants.{Order, Tree, Table as InTable}
 use Rattle.index_set.specs.Complete.{IsComplete}

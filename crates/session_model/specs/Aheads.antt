@@ -6,7 +6,7 @@ use Rattle.db_model.specs.Ahead.{Ahead, Aheads, OfJoin, OfSelect, partners}
 use Rattle.db_model.specs.Row.{Row, no_row}
 use Rattle.index_set.specs.Plans.{kinds}
 use Rattle.index_set.specs.Walks.{ahead}
-pub use Rattle.index_set.specs.Walks.{walk_of}
+pub use Rattle.index_set.specs.Walks.{walk_of_search}
 use Rattle.cursor.specs.declared.join.JoinCursor.{JoinCursor}
 use Rattle.cursor.specs.Pairs.{lefts_of, matching, rights_of}
 use Rattle.cursor.specs.Remaining.{slots_to_answer}
@@ -18,7 +18,7 @@ use Rattle.session_model.specs.declared.held.OpenSelect.{OpenSelect}
 
 abbrev pub ahead_of_select : Table → OpenSelect → Ahead
 ahead_of_select files o = record {
-  source = OfSelect o.cursor.tuples.schema.name (walk_of o.cursor.candidates.search);
+  source = OfSelect o.cursor.tuples.schema.name (walk_of_search o.cursor.candidates.search);
   slots = ahead o.cursor.candidates (rows files o.cursor.tuples);
   stops = slots_to_answer o.cursor (rows files o.cursor.tuples);
 }

@@ -28,13 +28,13 @@ relation_of_rows files t = relation_of_file (place files t.file) t.schema
 
 -- ---- cursors
 
-abbrev pub value_in : List Value × List Value → Side → Value
-value_in pair (Left place) = value_at pair.0 place
-value_in pair (Right place) = value_at pair.1 place
+abbrev pub value_of_side : List Value × List Value → Side → Value
+value_of_side pair (Left place) = value_at pair.0 place
+value_of_side pair (Right place) = value_at pair.1 place
 
 -- the values at some places of a pair of tuples
 abbrev pub project_pair : List Side → List Value × List Value → List Value
-project_pair places pair = map (value_in pair) places
+project_pair places pair = map (value_of_side pair) places
 
 abbrev pub select_left : Table → OpenSelect → List (List Value)
 select_left files o = map (project o.places) (remaining o.cursor (rows files o.cursor.tuples))

@@ -4,7 +4,7 @@
 
 ghost use Rattle.std.specs.Prelude.{◌≡◌, pos, get_or};
 ghost use Rattle.db_model.specs.declared.values.Value.TheVariants.{Number};
-ghost use Rattle.session_model.specs.View.{project, project_pair, value_in};
+ghost use Rattle.session_model.specs.View.{project, project_pair, value_of_side};
 
 use crate::held::Side;
 use db_model::{Few, Tuple, Value};
@@ -30,7 +30,7 @@ pub fn project_pair(places: &Few<Side, 8>, left: &Tuple, right: &Tuple, into: &m
 }
 
 fn value_in(left: &Tuple, right: &Tuple, side: &Side) -> Value
-    ensures { result ≡ value_in (left.now, right.now) side.now }
+    ensures { result ≡ value_of_side (left.now, right.now) side.now }
 {
     match side {
         Side::Left(place) => value_at(left, *place),

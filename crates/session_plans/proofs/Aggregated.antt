@@ -25,7 +25,7 @@ use Rattle.lvm.specs.Code.{first_refusal, first_ill_typed, first_missing_name, r
 use Rattle.lvm.proofs.Counting.{ill_typed-behind, ill_typed-in_front, missing_name-behind, missing_name-in_front}
 use Rattle.session_model.specs.View.{value_at}
 use Rattle.session_plans.specs.Aggregates.{answers, column_values, medians, suits_fold}
-use Rattle.session_plans.specs.Places.{first_of, is_named, items_of}
+use Rattle.session_plans.specs.Places.{first_of, is_named, aggregates_at}
 use Rattle.session_plans.proofs.Places.{parts, value_by_place}
 use Rattle.session_plans.proofs.Planned.{mapped_same, none_missing, none_typed}
 
@@ -68,25 +68,25 @@ module _ (attributes : List Attribute) where
       mapped_same (λ tuple. unwrap_or (value_of attributes tuple name) (Number (pos 0))) (λ tuple. value_at tuple k)
       (λ tuple. ap (λ (v : Option Value). unwrap_or v (Number (pos 0))) (value_by_place attributes tuple name k e) ∙ unwrap_or-slice_get tuple k (Number (pos 0))) tuples
 
-  pub suited_same : (list : List (Agg × List ℕ)) (items : List (Agg × ℕ)) → items_of attributes list ≡ Some items → map (is_aggregable attributes) list ≡ map (suits_fold attributes) items
+  pub suited_same : (list : List (Agg × List ℕ)) (items : List (Agg × ℕ)) → aggregates_at attributes list ≡ Some items → map (is_aggregable attributes) list ≡ map (suits_fold attributes) items
   suited_same [] items e = let f : items ≡ [] = cc in ap (λ (xs : List (Agg × ℕ)). map (suits_fold attributes) xs) (sym f)
   suited_same (item ∷ list) items e =
-      let p = parts (λ (k : ℕ) (xs : List (Agg × ℕ)). (item.0, k) ∷ xs) (place_of item.1 attributes) (items_of attributes list) items e in
+      let p = parts (λ (k : ℕ) (xs : List (Agg × ℕ)). (item.0, k) ∷ xs) (place_of item.1 attributes) (aggregates_at attributes list) items e in
       ap (λ (b : Bool). b ∷ map (is_aggregable attributes) list) (suited_by_place item p.one p.first_is)
       ∙ ap (λ (bs : List Bool). suits_fold attributes (item.0, p.one) ∷ bs) (suited_same list p.others p.rest_is)
       ∙ ap (λ (xs : List (Agg × ℕ)). map (suits_fold attributes) xs) (sym p.all_is)
 
-  pub medians_same : (list : List (Agg × List ℕ)) (items : List (Agg × ℕ)) → items_of attributes list ≡ Some items → medians items ≡ list_any is_median list
+  pub medians_same : (list : List (Agg × List ℕ)) (items : List (Agg × ℕ)) → aggregates_at attributes list ≡ Some items → medians items ≡ list_any is_median list
   medians_same [] items e = let f : items ≡ [] = cc in ap (λ (xs : List (Agg × ℕ)). medians xs) f
   medians_same (item ∷ list) items e =
-      let p = parts (λ (k : ℕ) (xs : List (Agg × ℕ)). (item.0, k) ∷ xs) (place_of item.1 attributes) (items_of attributes list) items e in
+      let p = parts (λ (k : ℕ) (xs : List (Agg × ℕ)). (item.0, k) ∷ xs) (place_of item.1 attributes) (aggregates_at attributes list) items e in
       ap (λ (xs : List (Agg × ℕ)). medians xs) p.all_is ∙ ap (λ (b : Bool). is_median item || b) (medians_same list p.others p.rest_is)
 
-  pub answers_same : (tuples : List (List Value)) (list : List (Agg × List ℕ)) (items : List (Agg × ℕ)) → items_of attributes list ≡ Some items
+  pub answers_same : (tuples : List (List Value)) (list : List (Agg × List ℕ)) (items : List (Agg × ℕ)) → aggregates_at attributes list ≡ Some items
       → map (λ (item : Agg × List ℕ). aggregate item.0 (named.column attributes item.1 tuples)) list ≡ answers items tuples
   answers_same tuples [] items e = let f : items ≡ [] = cc in ap (λ (xs : List (Agg × ℕ)). answers xs tuples) (sym f)
   answers_same tuples (item ∷ list) items e =
-      let p = parts (λ (k : ℕ) (xs : List (Agg × ℕ)). (item.0, k) ∷ xs) (place_of item.1 attributes) (items_of attributes list) items e in
+      let p = parts (λ (k : ℕ) (xs : List (Agg × ℕ)). (item.0, k) ∷ xs) (place_of item.1 attributes) (aggregates_at attributes list) items e in
       ap (λ (vs : List Value). aggregate item.0 vs ∷ map (λ (i : Agg × List ℕ). aggregate i.0 (named.column attributes i.1 tuples)) list) (column_by_place tuples item.1 p.one p.first_is)
       ∙ ap (λ (zs : List (Option ℤ)). aggregate item.0 (column_values p.one tuples) ∷ zs) (answers_same tuples list p.others p.rest_is)
       ∙ ap (λ (xs : List (Agg × ℕ)). answers xs tuples) (sym p.all_is)
@@ -100,7 +100,7 @@ module _ (list : List (Agg × List ℕ)) (condition : Option Cond) (r : Relation
   aggregate_unnamed nth e =
       rw (missing_name-in_front r.schema.attributes (map (λ (item : Agg × List ℕ). item.1) list) condition nth (ap (first_false 0) (named_same r.schema.attributes list) ∙ e)) refl
 
-  module _ (items : List (Agg × ℕ)) (i : items_of r.schema.attributes list ≡ Some items) (known : first_false 0 (map (is_named r.schema.attributes) list) ≡ None) where
+  module _ (items : List (Agg × ℕ)) (i : aggregates_at r.schema.attributes list ≡ Some items) (known : first_false 0 (map (is_named r.schema.attributes) list) ≡ None) where
     missing_is : db.missing_name r.schema.attributes (map (λ (item : Agg × List ℕ). item.1) list) condition ≡ first_missing_name (length list) r.schema.attributes condition
     missing_is =
         missing_name-behind r.schema.attributes (map (λ (item : Agg × List ℕ). item.1) list) condition (ap (first_false 0) (named_same r.schema.attributes list) ∙ known)

@@ -18,7 +18,7 @@ use Rattle.db_model.specs.Typing.{domain_of, first_false}
 use Rattle.cursor.specs.Pairs.{matching}
 use Rattle.session_model.specs.declared.held.Side.{Side}
 use Rattle.session_model.specs.declared.held.Side.TheVariants.{Left, Right}
-use Rattle.session_model.specs.View.{project_pair, value_in}
+use Rattle.session_model.specs.View.{project_pair, value_of_side}
 use Rattle.session_plans.specs.Places.{AreWhole, is_on_either, side_of, sides_of}
 use Rattle.session_plans.proofs.Places.{parts}
 
@@ -48,7 +48,7 @@ unwrapped : Option Value → Value
 unwrapped v = unwrap_or v (Number (pos 0))
 
 one_side : (k m : Option ℕ) (side : Side) (pair : List Value × List Value) → ((n : ℕ) → k ≡ Some n → n < length pair.0) → option_or (option_map (λ n. Left n) k) (option_map (λ n. Right n) m) ≡ Some side
-    → unwrapped (option_or (option_and_then (slice_get pair.0) k) (option_and_then (slice_get pair.1) m)) ≡ value_in pair side
+    → unwrapped (option_or (option_and_then (slice_get pair.0) k) (option_and_then (slice_get pair.1) m)) ≡ value_of_side pair side
 unfolding unwrapped
 one_side (Some n) m (Left k) pair below e =
     let same : n ≡ k = cc in
@@ -69,7 +69,7 @@ module _ (left right : List Attribute) (pair : List Value × List Value) (whole 
       let p = parts (λ (s : Side) (ss : List Side). s ∷ ss) (side_of left right name) (sides_of left right list) places e in
       let below : (n : ℕ) → place_of name left ≡ Some n → n < length pair.0 = λ n is. (let h : n < length left = place_below name n left is in omega (arith, whole)) in
       ap (λ (v : Value). v ∷ projected_pair left right list pair) (one_side (place_of name left) (place_of name right) p.one pair below p.first_is)
-      ∙ ap (λ (vs : List Value). value_in pair p.one ∷ vs) (pair_projects list p.others p.rest_is)
+      ∙ ap (λ (vs : List Value). value_of_side pair p.one ∷ vs) (pair_projects list p.others p.rest_is)
       ∙ ap (λ (ps : List Side). project_pair ps pair) (sym p.all_is)
 
 -- ---- whole rows

@@ -34,10 +34,10 @@ abbrev pub is_named : List Attribute → Agg × List ℕ → Bool
 is_named attributes item = is_attribute attributes item.1
 
 -- aggregates of places for aggregates of names
-abbrev pub items_of : List Attribute → List (Agg × List ℕ) → Option (List (Agg × ℕ))
-items_of attributes [] = Some []
-items_of attributes (item ∷ list) =
-    option_and_then (λ place. option_map (λ items. (item.0, place) ∷ items) (items_of attributes list)) (place_of item.1 attributes)
+abbrev pub aggregates_at : List Attribute → List (Agg × List ℕ) → Option (List (Agg × ℕ))
+aggregates_at attributes [] = Some []
+aggregates_at attributes (item ∷ list) =
+    option_and_then (λ place. option_map (λ items. (item.0, place) ∷ items) (aggregates_at attributes list)) (place_of item.1 attributes)
 
 -- what is refused first: the types of a list come before those of a condition, and after all names
 abbrev pub first_of : Option ℕ → Refusal → Refusal

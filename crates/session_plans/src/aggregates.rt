@@ -63,7 +63,7 @@ pub fn plan_aggregates(
 fn items_of(list: &[(Agg, Ident)], attributes: &[Attribute]) -> Result<Few<(Agg, u8), 8>, u8>
     requires few { length list.now ≤ 8 }
     requires attributes { length attributes.now ≤ 8 }
-    ensures items { IfOk result (λ items. all.items_of attributes.now list.now ≡ Some items) }
+    ensures items { IfOk result (λ items. all.aggregates_at attributes.now list.now ≡ Some items) }
     ensures known { let are = map (is_named attributes.now) list.now in
         OnOk result (first_false 0 are ≡ None) }
     ensures missing { let are = map (is_named attributes.now) list.now in

@@ -41,7 +41,7 @@ use Rattle.session_model.proofs.ReadAs.{rows_alike}
 use Rattle.session_model.proofs.Views.{gives_of_one, named_some, view_set}
 use Rattle.session_model.proofs.Wanted.{relation_seen}
 use Rattle.session_rows.specs.Changes.{RunsOn}
-use Rattle.session_rows.specs.CutRows.{KeepsRows, MayChange, MayRemove}
+use Rattle.session_rows.specs.CutRows.{AddsPartOfRow, MayChange, MayRemove}
 use Rattle.session_rows.proofs.CutTables.{changed_cut, kept_cut, removed_cut}
 use Rattle.session_rows.proofs.Changes.{one_of}
 use Rattle.session_rows.proofs.Cuts.{map_whole}
@@ -131,14 +131,14 @@ module _ {V : Type 0} (v : FilesOf V) (base : Base V) (files : V) (k : ℕ) (t :
         files = after.files;
         mends_to = m.mends_to;
         cut = ⊎_elim
-            (λ (e : KeepsRows old after t). kept_cut old base.tables base.held base.opens runs told sound k t there after m.is.others e)
+            (λ (e : AddsPartOfRow old after t). kept_cut old base.tables base.held base.opens runs told sound k t there after m.is.others e)
             (λ s.
             let made = is ∙ made_of_one change old.files base.held base.opens name k t now s.0 cell s.1 in
             let step_is : (step db command).0 ≡ with_relation db k (Some now) = ap (λ (o : Outcome). (replied db o).0) made in
             changed_cut old base.tables base.held base.opens runs told sound k t there after m.is.others (subst IsSoundDatabase step_is (step_sound db command brings sound)) s.2)
             m.is.left;
         is = ⊎_elim
-            (λ (e : KeepsRows old after t). inl (alike (put (rows old.files t) e.same) (put_same old.files base.held base.opens k t there)))
+            (λ (e : AddsPartOfRow old after t). inl (alike (put (rows old.files t) e.same) (put_same old.files base.held base.opens k t there)))
             (λ s. inr (inl (alike (put (rows after.files t) refl)
             (sym (ap (λ (o : Outcome). (replied db o).0) (is ∙ made_of_one change old.files base.held base.opens name k t now s.0 cell s.1))))))
             m.is.left;

@@ -46,7 +46,7 @@ use Rattle.session_model.specs.View.{relation_of_rows, view}
 use Rattle.session_model.proofs.CutHeld.{rows_cut, were_keys, were_rows}
 use Rattle.session_model.proofs.Running.{are_complete, differ, distinct_spared, index_there, named_spared, one_of, relation_there, row_no_tree}
 use Rattle.session_model.proofs.Sound.{named_bytes, seen}
-use Rattle.session_rows.specs.CutRows.{HasRowsAndKeys, KeepsRows}
+use Rattle.session_rows.specs.CutRows.{HasRowsAndKeys, AddsPartOfRow}
 
 -- ---- rows of which some are removed have their keys
 
@@ -104,7 +104,7 @@ module _ (old : State) (tables : Tables) (held : Held) (opens : List (Option Ope
     tree_stays_complete i (InTable number) ks beside h complete = complete
 
     -- the rows are as before, with a part of one more
-    pub kept_cut : KeepsRows old after t → IsCutTable after.files
+    pub kept_cut : AddsPartOfRow old after t → IsCutTable after.files
     kept_cut m = rows_cut old tables held opens r told s k t after (AddingRow k) (record {
       there = there;
       spared = spared;

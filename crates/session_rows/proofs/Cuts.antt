@@ -32,7 +32,7 @@ use Rattle.session_model.specs.Frames.{StaysAt}
 use Rattle.session_model.proofs.Frames.{bytes_spared, complete_kept, rows_prepared}
 use Rattle.session_model.proofs.Running.{bytes_by}
 use Rattle.session_rows.specs.declared.selecting.Selected.{Selected}
-use Rattle.session_rows.specs.CutRows.{HasRowsAndKeys, KeepsRows, MayAddRow, MayChange, MayMarkRows, MayRemove}
+use Rattle.session_rows.specs.CutRows.{HasRowsAndKeys, AddsPartOfRow, MayAddRow, MayChange, MayMarkRows, MayRemove}
 use Rattle.session_rows.specs.Marking.{IsSelected, dead, marked}
 use Rattle.session_rows.proofs.Rooms.{exact_kept}
 use Rattle.session_rows.proofs.Marked.{front_removed, marks_next}
@@ -59,7 +59,7 @@ unless_too {T = T} {U = U} {Q = Q} call q e is f h = subst (λ (r : Result U Fil
 -- ---- what stays
 
 -- where bytes stay, rows stay, and nothing stands behind them
-pub kept_by : (old after : State) (t : Tuples) → HoldsRows old t → ((k : ℕ) → bytes_at after.files k ≡ bytes_at old.files k) → KeepsRows old after t
+pub kept_by : (old after : State) (t : Tuples) → HoldsRows old t → ((k : ℕ) → bytes_at after.files k ≡ bytes_at old.files k) → AddsPartOfRow old after t
 kept_by old after t holds same =
     let attributes = t.schema.attributes in record {
       same = ap (rows_of attributes) (same t.file);
@@ -154,7 +154,7 @@ module _ (t : Tuples) (infos : List IndexInfo) (values : List Value) (tables : T
       record {
         others = spares_then old mid after stays stays stays f.spares m.others (λ k s. (s, s));
         left = ⊎_elim
-            (λ (k : KeepsRows mid after t). inl (record { same = k.same ∙ same; part = k.part ∙ f.bytes told t.file; beside = λ j other. k.beside j other ∙ f.bytes told j }))
+            (λ (k : AddsPartOfRow mid after t). inl (record { same = k.same ∙ same; part = k.part ∙ f.bytes told t.file; beside = λ j other. k.beside j other ∙ f.bytes told j }))
             (λ e. inr (
               e.0 ∙ ap (λ (rs : List Row). rs ++ record { tuple = values; live = true } ∷ []) same,
               record {

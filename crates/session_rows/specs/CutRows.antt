@@ -24,7 +24,7 @@ use Rattle.session_rows.specs.Marking.{marked}
 -- ---- a row that is added
 
 -- the rows are as before, with less than one more after them, and all other files have their bytes
-pub record KeepsRows (old after : State) (t : Tuples) : Type 0 where
+pub record AddsPartOfRow (old after : State) (t : Tuples) : Type 0 where
   pub same : rows after.files t ≡ rows old.files t
   pub part : HasRowInPart old after t
   pub beside : (k : ℕ) → k ≢ t.file → bytes_at after.files k ≡ bytes_at old.files k
@@ -38,7 +38,7 @@ pub record HasRowsAndKeys (old after : State) (tables : Tables) (t : Tuples) (in
 -- the rows are as before, or one of these values stands after them; no file has changed but the relation's and its trees
 pub record MayAddRow (old after : State) (tables : Tables) (t : Tuples) (infos : List IndexInfo) (values : List Value) : Type 0 where
   pub others : SparesOthers old after (StaysAt t.file infos)
-  pub left : KeepsRows old after t
+  pub left : AddsPartOfRow old after t
       ⊎ ((rows after.files t ≡ rows old.files t ++ record { tuple = values; live = true } ∷ [])
       × HasRowsAndKeys old after tables t infos (MayAllFollow (rows old.files t) values infos))
 
@@ -69,5 +69,5 @@ pub record MayRemove (old after : State) (t : Tuples) (condition : Option Cond) 
 -- the relation is as before, or what was to be made of it; no file has changed but its own and its trees
 pub record MayChange (old after : State) (tables : Tables) (t : Tuples) (infos : List IndexInfo) (made : Result (Relation × Reply) Refusal) : Type 0 where
   pub others : SparesOthers old after (StaysAt t.file infos)
-  pub left : KeepsRows old after t
+  pub left : AddsPartOfRow old after t
       ⊎ ((reply : Reply) × (made ≡ Ok (relation_of_rows after.files t, reply)) × HasRowsAndKeys old after tables t infos ⊤)

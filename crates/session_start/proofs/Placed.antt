@@ -14,7 +14,7 @@ use Rattle.catalog.specs.declared.types.IndexEntry.{IndexEntry}
 use Rattle.catalog.specs.CatalogFile.{index_in as index_of_entry, indexes_in}
 use Rattle.catalog.specs.Catalogs.{catalog_slots}
 use Rattle.catalog.specs.Formed.{AreBehind, AreSchemas, HasCatalogSize, IsFormed, is_schema_slot}
-use Rattle.catalog.specs.Rules.{breaks_files, differ, first, how_many, is_behind, is_same_place, is_stranger, is_table, is_third_table, is_tree, stands_on}
+use Rattle.catalog.specs.Rules.{breaks_files, first, how_many, is_behind, is_same_place, is_stranger, is_table, is_surplus_table, is_tree, stands_on}
 use Rattle.db_model.specs.declared.schemas.Attribute.{Attribute}
 use Rattle.db_model.specs.declared.schemas.IndexKind.{IndexKind}
 use Rattle.db_model.specs.declared.schemas.IndexKind.TheVariants.{Inline, MaxHeap, MemHash}
@@ -34,6 +34,7 @@ use Rattle.space_model.specs.FileNames.{catalog_file, is_there, rows_file, tree_
 use Rattle.space_model.proofs.NamedFiles.{at_name, named_found}
 use Rattle.stored.proofs.FilesOf.{IsNumbered, by_kind, first_false, in_table, rows_wanted, tree_wanted}
 use Rattle.stored.proofs.HasFiles.{no_stranger}
+use Rattle.stored.proofs.SoundCut.{same_used as same_of}
 use Rattle.stored.proofs.SoundSlots.{sound_schema}
 use Rattle.tuple_file.specs.declared.tuples.Tuples.{Tuples}
 use Rattle.session_model.specs.declared.held.Held.{Held}
@@ -48,12 +49,6 @@ use Rattle.session_start.specs.Found.{ShareNoAccess, HasRowFile, IsAccess, AreFi
 
 pub known_of : (files : Table) → length files ≡ 32 → first 32 (is_stranger files) ≡ None → AreOfDatabase files
 known_of files size none id f e = no_stranger files id f e (first_false (is_stranger files) 32 id (in_table files size id f e) none)
-
-same_of : (a b : Bool) → differ a b ≡ false → a ≡ b
-same_of true true e = refl
-same_of false false e = refl
-same_of true false e = absurd (cc)
-same_of false true e = absurd (cc)
 
 pub rows_there : (files : Table) (relations : List (Option Schema)) (indexes : List (Option Index)) → first 16 (breaks_files files relations indexes) ≡ None
     → (k : ℕ) → k < 8 → is_there (rows_file k) files ≡ is_some (get_or relations k None)
@@ -165,7 +160,7 @@ index_placed state version i schemas relations before (Some index) (Some x) d kn
     let now : is_behind schemas before (Some (index_known x)) ≡ true = ap (λ (z : Index). is_behind schemas before (Some z)) h.0 ∙ behind in
     let stand : Bool = stands_on (index_known x) (get_or schemas x.relation None) in
     let same : Bool = list_any (is_same_place (index_known x)) before in
-    let third : Bool = is_third_table before (index_known x) in
+    let third : Bool = is_surplus_table before (index_known x) in
     let stands = (both_parts stand (not same) (both_parts (stand && not same) (not third) now).0).0 in
     let within = test_inside schemas x.relation (stands_on (index_known x)) refl stands in
     placed_on state version i before x (get_or schemas x.relation None) (get_or relations x.relation None) d known (s x.relation) stands
@@ -246,7 +241,7 @@ module _ (files : Table) (schemas : List (Option Schema)) (indexes : List (Optio
       let now : is_behind schemas (take j indexes) (Some (index_known y)) ≡ true = ap (is_behind schemas (take j indexes)) (sym is) ∙ behind j in
       let stand : Bool = stands_on (index_known y) (get_or schemas y.relation None) in
       let same : Bool = list_any (is_same_place (index_known y)) (take j indexes) in
-      let third : Bool = is_third_table (take j indexes) (index_known y) in
+      let third : Bool = is_surplus_table (take j indexes) (index_known y) in
       let no = (both_parts (stand && not same) (not third) now).1 in
       of_table (is_hash_table (index_known y)) (nat_le 2 (how_many is_table (take j indexes))) (ap (λ (a : Access). is_table (Some (record (index_known y) { kind = access_kind a }))) table) no
     where

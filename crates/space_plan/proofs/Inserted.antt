@@ -1,29 +1,22 @@
 -- Commands that insert and read make a database grow by the rows that they bring.
-use Rattle.std.proofs.Common.{◌≡◌, ℕ, ◌<◌, Bool, true, false, ◌&&◌, not, nat_le, List, [], ◌∷◌, Option, if◌then◌else◌, refl, arith}
+use Rattle.std.proofs.Common.{◌≡◌, ℕ, ◌<◌, true, ◌&&◌, not, List, [], ◌∷◌, Option, if◌then◌else◌, refl, arith}
 use Rattle.std.specs.Prelude.{◌==◌}
 use Rattle.std.specs.List.{AllByRecursion}
 use Rattle.std.specs.Str.{bytes_eq}
-use Rattle.std.proofs.lemmas.Bool.Decides.{nat_tests}
 use Rattle.std.proofs.lemmas.Slice.Eq.{bytes_eq-Decides}
 use Rattle.db_model.specs.declared.commands.Command.{Command}
 use Rattle.db_model.specs.Ahead.{is_refused}
 use Rattle.db_model.specs.Catalog.{Index}
 use Rattle.db_model.specs.Database.{Relation, Database, with_cursor, with_relation}
-use Rattle.db_model.specs.Step.{Reply, after_all, slots_limit, step}
+use Rattle.db_model.specs.Step.{Reply, after_all, step}
 use Rattle.db_model.proofs.Change.{Change, IndexMade, RelationMade, Nothing, OfRelation, OfIndex, OfCursor, Inserts, Drops, change_of, in_version}
+use Rattle.space_plan.proofs.Ringed.{below_limit}
 use Rattle.space_plan.specs.Growth.{HasFewRows, IsInsertOrRead, inserts_into, rows_brought}
 use Rattle.space_plan.proofs.Longer.{IsGrown, grown_few, grown_row, grown_same, grown_then}
 
 -- the rows that a command brings to the relation of a name, by its reply
 abbrev brought : Command → Reply → List ℕ → ℕ
 brought c reply name = if inserts_into name c && not (is_refused reply) then 1 else 0
-
-below_limit : (version n : ℕ) → nat_le (slots_limit version) n ≡ false → n < 32768
-below_limit version n = by_test (version == 1)
-  where
-    by_test : (b : Bool) → nat_le (if b then 16384 else 32768) n ≡ false → n < 32768
-    by_test true h = grind (arith, nat_tests)
-    by_test false h = grind (arith, nat_tests)
 
 relation_grows : (db : Database) (c : Command) (version slot : ℕ) (r : Option Relation) (reply : Reply) → RelationMade db c version slot r reply → IsInsertOrRead c → HasFewRows db
     → IsGrown (brought c reply) db (with_relation (in_version version db) slot r)

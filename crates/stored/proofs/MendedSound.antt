@@ -60,7 +60,7 @@ mended_is_base files size trees time =
 
 -- ---- a sound table
 
-any_slot : (test : Option Schema → Bool) (slots : List (Option Schema)) → list_any test slots ≡ true → test None ≡ false → (k : ℕ) × (x : Schema) × (get_or slots k None ≡ Some x) × (test (Some x) ≡ true)
+pub any_slot : (test : Option Schema → Bool) (slots : List (Option Schema)) → list_any test slots ≡ true → test None ≡ false → (k : ℕ) × (x : Schema) × (get_or slots k None ≡ Some x) × (test (Some x) ≡ true)
 any_slot test [] e none = cc
 any_slot test (None ∷ slots) e none = let r = any_slot test slots (rw none at e) none in (suc r.0, r.1, r.2, r.3)
 any_slot test (Some x ∷ slots) e none = by_test (test (Some x)) refl e (λ h. any_slot test slots h none)

@@ -46,7 +46,7 @@ bytes_same old new name d k s = by_old (file_named name old) refl
         let like = s.kept at.0 f at.1 in
         sym (ap bytes_in_file (no_name new name like.file like.id k like.there (like.name ∙ at.2)) ∙ like.bytes)
 
-map_same : {X : Type 0} (f g : ℕ → X) → ((k : ℕ) → f k ≡ g k) → (ks : List ℕ) → map f ks ≡ map g ks
+pub map_same : {X : Type 0} (f g : ℕ → X) → ((k : ℕ) → f k ≡ g k) → (ks : List ℕ) → map f ks ≡ map g ks
 map_same f g h [] = refl
 map_same f g h (k ∷ ks) = ap (λ x. x ∷ map f ks) (h k) ∙ ap (λ rest. g k ∷ rest) (map_same f g h ks)
 

@@ -15,17 +15,13 @@ use Rattle.stored.specs.Mended.{has_time, mended_base, mended_catalog, mended_ve
 use Rattle.stored.specs.declared.half.Half.{Half}
 use Rattle.stored.specs.declared.half.Half.TheVariants.{Emptying, LoneRows, LoneTree, Nothing, Treeless}
 use Rattle.stored.proofs.MendedTables.{mended_same}
-use Rattle.stored.proofs.SameBase.{bytes_same, there_same}
+use Rattle.stored.proofs.SameBase.{bytes_same, map_same, there_same}
 
 -- one table has the files of another, whatever their ids
 pub record SameByName (old new : Table) : Type 0 where
   pub there : (name : List ℕ) → is_there name new ≡ is_there name old
   pub bytes : (name : List ℕ) → bytes_named name new ≡ bytes_named name old
   pub only : (id : ℕ) (f : File) → place new id ≡ Some f → HasLike old f
-
-map_same : {X : Type 0} (f g : ℕ → X) → ((k : ℕ) → f k ≡ g k) → (ks : List ℕ) → map f ks ≡ map g ks
-map_same f g h [] = refl
-map_same f g h (k ∷ ks) = ap (λ x. x ∷ map f ks) (h k) ∙ ap (λ rest. g k ∷ rest) (map_same f g h ks)
 
 module _ (old new : Table) (s : SameByName old new) where
   same_bytes : catalog_bytes_in new ≡ catalog_bytes_in old

@@ -21,11 +21,11 @@ use Rattle.stored.proofs.FilesOf.{IsNumbered, Unbroken, by_kind, first_false, in
 use Rattle.stored.proofs.HasFiles.{formed, no_stranger}
 use Rattle.stored.proofs.MendedBase.{whole_long}
 use Rattle.stored.proofs.MendedSound.{mended_of_sound}
-use Rattle.stored.proofs.SoundSlots.{IsUnbroken, kept, slot_below, unbroken_slots}
+use Rattle.stored.proofs.SoundSlots.{IsUnbroken, kept, nothing, slot_below, unbroken_slots}
 use Rattle.stored.specs.CutTables.{HoldsRowsOr, IsBegun, IsCutTable, IsHalfDone, IsIndexWhile, IsSlot, index_read, relation}
 use Rattle.stored.specs.declared.half.Half.TheVariants.{Nothing}
 
-same_used : (there used : Bool) → differ there used ≡ false → there ≡ used
+pub same_used : (there used : Bool) → differ there used ≡ false → there ≡ used
 same_used true true e = refl
 same_used true false e = cc
 same_used false true e = cc
@@ -34,10 +34,6 @@ same_used false false e = refl
 whole_slot : (version k : ℕ) (slot : List ℕ) (o : Option Schema) → is_relation_slot version slot o ≡ true → IsSlot Nothing version k slot o
 whole_slot version k slot None e = inl e
 whole_slot version k slot (Some schema) e = inl e
-
-nothing : (bytes : List ℕ) → length bytes ≡ 0 → bytes ≡ []
-nothing [] e = refl
-nothing (b ∷ bytes) e = absurd (omega (arith, e))
 
 -- a file under an id is there by its name
 there_at : (files : Table) (id : ℕ) (f : File) → place files id ≡ Some f → is_there f.name files ≡ true

@@ -6,7 +6,7 @@ use Rattle.std.specs.Str.{bytes_eq}
 use Rattle.std.proofs.lemmas.Bool.{cases_lt}
 use Rattle.std.proofs.lemmas.List.{get_or_past}
 use Rattle.std.proofs.lemmas.List.FromFn.{get_or-map-range_with_len, length-map-range_with_len}
-use Rattle.catalog.specs.Rules.{breaks_index, breaks_relation, broken_slot, broken_catalog, first, first_slot, has_form, has_name, is_attribute_slot, is_behind, is_domain, is_index_form, is_named_among, is_relation_slot, is_row, is_same_place, is_schema, is_sound_index, is_sound_relation, is_third_table, stands_on}
+use Rattle.catalog.specs.Rules.{breaks_index, breaks_relation, broken_slot, broken_catalog, first, first_slot, has_form, has_name, is_attribute_slot, is_behind, is_domain, is_index_form, is_named_among, is_relation_slot, is_row, is_same_place, is_schema, is_sound_index, is_sound_relation, is_surplus_table, stands_on}
 use Rattle.db_model.specs.declared.schemas.Attribute.{Attribute}
 use Rattle.db_model.specs.declared.schemas.Domain.{Domain}
 use Rattle.db_model.specs.declared.schemas.Domain.TheVariants.{Int, Long, Time, Str}
@@ -61,7 +61,7 @@ unbroken_slots bytes e =
     let c = earliest_none seventeen [] b.1 in
     record { relations = nothing_broken 16 (first_slot bytes (breaks_relation bytes)) b.0; indexes = nothing_broken 17 (first_slot bytes (breaks_index bytes)) c.0 }
 
-nothing : (bytes : List ℕ) → length bytes ≡ 0 → bytes ≡ []
+pub nothing : (bytes : List ℕ) → length bytes ≡ 0 → bytes ≡ []
 nothing [] e = refl
 nothing (b ∷ bytes) e = absurd (omega (arith, e))
 
@@ -78,7 +78,7 @@ kept bytes test k below some e = by_test (length bytes == 0) refl e
 no_relations : map (relation_at []) (range_with_len 0 8) ≡ replicate 8 None
 no_relations = refl
 
-none_at : (k : ℕ) (schema : Schema) → k < 8 → relation_at [] k ≡ Some schema → ⊥
+pub none_at : (k : ℕ) (schema : Schema) → k < 8 → relation_at [] k ≡ Some schema → ⊥
 none_at k schema below e =
     let here : get_or (map (relation_at []) (range_with_len 0 8)) k None ≡ relation_at [] k = get_or-map-range_with_len (relation_at []) 0 8 k k None below (omega arith) in
     none_some schema (sym (ap (λ slots. get_or slots k None) no_relations ∙ none_there 8 k) ∙ here ∙ e)
@@ -146,7 +146,7 @@ no_index_at k index below e =
 pub record IsSoundIndexSlot (bytes : List ℕ) (k : ℕ) (index : Index) : Type 0 where
   pub stands : stands_on index (get_or (catalog_of bytes).relations index.relation None) ≡ true
   pub alone : list_any (is_same_place index) (take k (catalog_of bytes).indexes) ≡ false
-  pub few : is_third_table (take k (catalog_of bytes).indexes) index ≡ false
+  pub few : is_surplus_table (take k (catalog_of bytes).indexes) index ≡ false
 
 pub sound_index_slot : (bytes : List ℕ) (k : ℕ) (index : Index) → IsUnbroken bytes → k < 8 → index_at bytes k ≡ Some index → IsSoundIndexSlot bytes k index
 unfolding breaks_index
@@ -161,7 +161,7 @@ sound_index_slot bytes k index u below e =
     let behind = (both_parts (is_index_form slot (Some index)) (is_behind relations before (Some index)) at).1 in
     let here : Bool = stands_on index (get_or relations index.relation None) in
     let same : Bool = list_any (is_same_place index) before in
-    let third : Bool = is_third_table before index in
+    let third : Bool = is_surplus_table before index in
     let a = both_parts (here && not same) (not third) behind in
     let b = both_parts here (not same) a.0 in
     record { stands = b.0; alone = untrue same b.1; few = untrue third a.1 }

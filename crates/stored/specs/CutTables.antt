@@ -69,8 +69,8 @@ pub record IsEmptiedInPart (k : ℕ) (slot : List ℕ) : Type 0 where
   pub edge : IsEdge k at
   pub bytes : slot ≡ replicate at 0 ++ drop at (relation_slot_bytes (Some was))
 
-abbrev pub with_attribute : Schema → Attribute → Schema
-with_attribute schema a = record schema { attributes = schema.attributes ++ a ∷ [] }
+abbrev pub schema_with_attribute : Schema → Attribute → Schema
+schema_with_attribute schema a = record schema { attributes = schema.attributes ++ a ∷ [] }
 
 -- after its attributes stands one more, or those of its bytes that lie before or after the begin of a region; their
 -- number, which stands in a region after them, is still the old one
@@ -83,7 +83,7 @@ pub record IsGrownInPart (k : ℕ) (slot : List ℕ) (schema : Schema) : Type 0 
   pub first : (begin ≡ 0) ⊎ IsEdge k (16 + 18 * length schema.attributes + begin)
   pub last : (upto ≡ 18) ⊎ IsEdge k (16 + 18 * length schema.attributes + upto)
   -- where all of it is there it fits the relation
-  pub fits : begin ≡ 0 → upto ≡ 18 → is_schema 2 (with_attribute schema more) ≡ true
+  pub fits : begin ≡ 0 → upto ≡ 18 → is_schema 2 (schema_with_attribute schema more) ≡ true
   pub room : length schema.attributes < 8
   pub apart : (176 * k + 16 + 18 * length schema.attributes + upto - 1) / 128 < (176 * k + 160) / 128
   pub bytes : slot ≡ put_at (relation_slot_bytes (Some schema)) (16 + 18 * length schema.attributes + begin) (slice_range (attribute_bytes more) begin upto)

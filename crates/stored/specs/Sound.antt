@@ -38,7 +38,7 @@ pub record IsSoundTable (files : Table) : Type 0 where
   -- 15: the catalog is absent, empty, or of the size of a version
   -- 16: a relation slot has a slot's form, with AQL names, at most 128 bytes a row, and distinct names
   -- 17: an index slot has a slot's form, and its index is on an attribute that its kind allows; no two on one attribute;
-  --     at most two hash tables
+  --     at most as many hash tables as there is memory for
   -- 18: a relation has its file of rows and a tree its file, and no other slot has one
   pub catalog : first_broken files ≡ None
   -- 19: the rows of a relation are whole, few, and none without attributes

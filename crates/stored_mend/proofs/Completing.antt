@@ -16,7 +16,7 @@ use Rattle.space_model.specs.FileNames.{bytes_in_file, bytes_named, catalog_file
 use Rattle.stored.proofs.FilesOf.{first_false, unbroken}
 use Rattle.stored.proofs.HasFiles.{no_stranger}
 use Rattle.stored.proofs.SameBase.{first_nothing}
-use Rattle.stored_mend.specs.Complete.{AreComplete, HasSlot, IsComplete, IsSoundButTrees, LosesIndex, LosesTree, SettlesIndex, SettlesSlot, SparesOtherIndexes}
+use Rattle.stored_mend.specs.Complete.{HasCompleteIndexes, HasSlot, HasCompleteIndex, IsSoundButTrees, LosesIndex, LosesTree, SettlesIndex, SettlesSlot, SparesOtherIndexes}
 use Rattle.stored_mend.specs.Listed.{LacksTree}
 use Rattle.stored_mend.specs.Trees.{ChangesAtMost, IsDoublingOf, SparesButOne, SparesButTree}
 use Rattle.stored_mend.proofs.OneFile.{catalog_no_rows, catalog_no_tree, rows_no_tree, same_tree_slot}
@@ -182,11 +182,11 @@ pub rest_spared : (a b : Table) (catalog : Catalog) (i : ℕ) → SparesOtherInd
 rest_spared a b catalog i s j other h = record { relations = h.relations ∙ sym s.relations; index = h.index ∙ sym (s.indexes j other) }
 
 -- one slot more is complete
-pub complete_next : (a b : Table) (catalog : Catalog) (i : ℕ) → AreComplete a catalog i → SettlesIndex a b i → AreComplete b catalog (i + 1)
+pub complete_next : (a b : Table) (catalog : Catalog) (i : ℕ) → HasCompleteIndexes a catalog i → SettlesIndex a b i → HasCompleteIndexes b catalog (i + 1)
 complete_next a b catalog i c s = record {
   sound = s.spares.sound;
   first = λ j less. ⊎_elim
-      (λ (same : j ≡ i). subst (IsComplete b) (sym same) s.here)
+      (λ (same : j ≡ i). subst (HasCompleteIndex b) (sym same) s.here)
       (λ (other : j ≢ i). s.spares.complete j other (c.first j (omega (arith, less, other))))
       (cases_eq j i);
   rest = λ j more. let other : j ≢ i = (λ e. absurd (omega (arith, e, more))) in rest_spared a b catalog i s.spares j other (c.rest j (omega (arith, more)));

@@ -6,21 +6,7 @@ use Rattle.afl_base.specs.Fields.{put_at}
 use Rattle.afl_base.specs.Files.{IsLive, KeepsBytes, Overwrites, State, bytes_at, size_at}
 use Rattle.afl_base.proofs.FrameLaws.{becomes_as}
 use Rattle.afl_base.proofs.PutLaws.{put_at_nothing}
-
--- nothing has changed
-becomes_itself : (s : State) (id : ℕ) → IsLive s.files id → KeepsBytes s s id
-becomes_itself s id live = record {
-  live = live;
-  name = refl;
-  kind = refl;
-  size = refl;
-  bytes = λ told. refl;
-  others = λ k differs. refl;
-  names = λ n none. none;
-  used = refl;
-  draft = refl;
-  tells = refl;
-}
+use Rattle.index_maxheap.proofs.Grows.{keeps_itself as becomes_itself}
 
 -- that is a write of which nothing was done
 pub nothing_put : (s : State) (id at : ℕ) (bytes : List ℕ) → IsLive s.files id → OverwritesFront s s id at bytes

@@ -16,15 +16,15 @@ use Rattle.stored.specs.CutTables.{IsIndexWhile}
 use Rattle.stored.specs.Sound.{IsIndexComplete, IsSoundTable}
 use Rattle.stored.specs.declared.half.Half.{Half}
 use Rattle.stored.proofs.MendedSound.{mended_of_unbroken, own_catalog}
-use Rattle.stored_mend.specs.Complete.{AreComplete, HasSlot, IsSoundButTrees}
-use Rattle.stored_mend.specs.Stages.{HasWholeRows}
+use Rattle.stored_mend.specs.Complete.{HasCompleteIndexes, HasSlot, IsSoundButTrees}
+use Rattle.stored_mend.specs.Stages.{HasWholeRelations}
 use Rattle.tuple_file.specs.Tuples.{AreRows}
 
 -- only an index with a tree may lack a key
 complete_while : (half : Half) (index : Index) (bytes : List ℕ) (zs : List ℤ) → index.kind ≢ MaxHeap → IsIndexWhile half index bytes zs → IsIndexComplete index.kind bytes zs
 complete_while half index bytes zs other while = ⊎_elim (λ complete. complete) (λ part. absurd (other part.0)) while
 
-pub whole_sound : (files : Table) (half : Half) → HasWholeRows files half → IsSoundButTrees files
+pub whole_sound : (files : Table) (half : Half) → HasWholeRelations files half → IsSoundButTrees files
 whole_sound files half w =
     let sound = w.stage.catalog in
     let own = own_catalog files sound in
@@ -46,7 +46,7 @@ has_slots files catalog e j = record {
   index = ap (λ (slots : Slots). get_or slots.indexes j None) e;
 }
 
-pub none_complete : (files : Table) (catalog : Catalog) (half : Half) → catalog_slots catalog ≡ catalog_in files → HasWholeRows files half → AreComplete files catalog 0
+pub none_complete : (files : Table) (catalog : Catalog) (half : Half) → catalog_slots catalog ≡ catalog_in files → HasWholeRelations files half → HasCompleteIndexes files catalog 0
 none_complete files catalog half e w = record {
   sound = whole_sound files half w;
   first = λ j less. absurd (omega (arith, less));
@@ -54,5 +54,5 @@ none_complete files catalog half e w = record {
 }
 
 -- with all trees they are sound
-pub all_complete : (files : Table) (catalog : Catalog) → AreComplete files catalog 8 → IsSoundTable files
+pub all_complete : (files : Table) (catalog : Catalog) → HasCompleteIndexes files catalog 8 → IsSoundTable files
 all_complete files catalog c = record { catalog = c.sound.catalog; rows = c.sound.rows; indexes = λ slot below. (c.first slot below).keeps }

@@ -10,7 +10,7 @@ use Rattle.stored.specs.CutTables.{HasMark, IsBehindSlot, IsHalfDone, IsMarkedIn
 use Rattle.stored.specs.Mended.{mended_catalog}
 use Rattle.stored.specs.declared.half.Half.{Half}
 use Rattle.stored.specs.declared.half.Half.TheVariants.{Nothing, Emptying, Growing, LoneRows, Treeless, LoneTree, AddingRow, AddingKey}
-use Rattle.stored_mend.specs.Listed.{IsAhead, IsDoneTo, IsMarkedTo, Reach, indexes_below, relations_below, rows_below, trees_below}
+use Rattle.stored_mend.specs.Listed.{IsBeyond, IsDoneTo, IsMarkedTo, Reach, indexes_below, relations_below, rows_below, trees_below}
 
 abbrev pub IsWritten : Table → ℕ → Type 0
 IsWritten files k = is_relation_slot (mended_catalog files).version (slot_bytes files k) (relation files k) ≡ true
@@ -194,7 +194,7 @@ module _ (files : Table) where
   further : (slot j : ℕ) → slot ≤ j → j ≢ slot → slot + 1 ≤ j
   further slot j reached differs = omega (arith, reached, differs)
 
-  pub relation_settled : (slot : ℕ) → IsWritten files slot → IsMarkedTo files (slot + 1) → (half : Half) → IsHalfDone files half → IsAhead (relations_below slot) half → Comes (relations_below (slot + 1))
+  pub relation_settled : (slot : ℕ) → IsWritten files slot → IsMarkedTo files (slot + 1) → (half : Half) → IsHalfDone files half → IsBeyond (relations_below slot) half → Comes (relations_below (slot + 1))
   relation_settled slot written mark (Emptying j) h ahead = ⊎_elim
       (λ (same : j ≡ slot). (
         LoneRows slot,

@@ -1,9 +1,9 @@
 -- The keys of an index that has a tree are found, where the catalog and all rows are sound.
-use Rattle.std.proofs.Common.{◌≡◌, ◌≢◌, ⊎_elim, ℕ, ℤ, ◌+◌, ◌<◌, ◌≤◌, Bool, true, false, ◌==◌, List, [], get_or, Option, Some, None, if◌then◌else◌, refl, ap, sym, subst, ◌∙◌, arith}
+use Rattle.std.proofs.Common.{◌≡◌, ◌≢◌, ⊎_elim, ℕ, ◌+◌, ◌<◌, ◌≤◌, Bool, true, false, ◌==◌, List, [], get_or, Option, Some, None, if◌then◌else◌, refl, ap, sym, subst, ◌∙◌, arith}
 use Rattle.std.specs.Prelude.{is_some, option_map, slice_get}
 use Rattle.std.specs.Option.{option_map_or}
 use Rattle.std.proofs.lemmas.List.FromFn.{get_or-map-range_with_len}
-use Rattle.afl_base.specs.Files.{File, IsNamed, State, Table, bytes_at, place}
+use Rattle.afl_base.specs.Files.{File, IsNamed, State, Table, bytes_at}
 use Rattle.afl_base.specs.KeyColumn.{key_of as key_of_column}
 use Rattle.afl_base.specs.Keys.{first_keys}
 use Rattle.afl_base.specs.declared.key_column.KeyColumn.{KeyColumn}
@@ -19,8 +19,8 @@ use Rattle.db_model.specs.declared.schemas.Schema.{Schema}
 use Rattle.db_model.specs.Catalog.{Index, index_at, relation_at, version_of}
 use Rattle.db_model.specs.Database.{Relation}
 use Rattle.db_model.specs.Row.{row_length, rows_of, slots_in_bytes}
-use Rattle.db_model.specs.Step.{allows, keys, slots_limit}
-use Rattle.padded.proofs.Facts.{none_some, some_found, some_same}
+use Rattle.db_model.specs.Step.{allows, keys}
+use Rattle.padded.proofs.Facts.{some_found, some_same}
 use Rattle.space_model.specs.Enough.{rows_in}
 use Rattle.space_model.specs.FileNames.{bytes_in_file, bytes_named, file_named, is_there, rows_file}
 use Rattle.space_model.proofs.NamedFiles.{named_place}
@@ -28,17 +28,11 @@ use Rattle.stored.specs.Base.{base_of, relation_stored}
 use Rattle.stored.specs.Sound.{keys_stored}
 use Rattle.stored.proofs.FilesOf.{first_false, rows_wanted, unbroken}
 use Rattle.stored.proofs.SoundSlots.{slot_below, sound_index_slot, sound_schema, sound_slot, unbroken_slots}
+use Rattle.stored_mend.proofs.FilledRows.{limit_most as few_slots}
 use Rattle.stored_mend.specs.Complete.{IsSoundButTrees}
 use Rattle.stored_mend.specs.Keys.{HasTooMany, IsKeysOf, MayHaveKeys}
 use Rattle.stored_mend.proofs.ColumnKeys.{narrow_keys, narrow_width}
 use Rattle.stored_mend.proofs.TreeFiles.{named_bytes}
-
-few_slots : (version : ℕ) → slots_limit version ≤ 32768
-few_slots version = by_test (version == 1)
-  where
-    by_test : (b : Bool) → (if b then 16384 else 32768) ≤ 32768
-    by_test true = omega arith
-    by_test false = omega arith
 
 pub wanted_there : (there used : Bool) → differ there used ≡ false → used ≡ true → there ≡ true
 wanted_there true used e t = refl

@@ -1,5 +1,5 @@
 -- A slot is settled where its tree is that of its keys.
-use Rattle.std.proofs.Common.{◌≡◌, ◌≢◌, ⊎_elim, ℕ, zero, suc, ℤ, ◌+◌, ◌<◌, ◌≤◌, Bool, true, false, List, [], ◌∷◌, length, get_or, Option, Some, None, IsTrue, refl, ap, sym, subst, ◌∙◌, arith}
+use Rattle.std.proofs.Common.{◌≡◌, ◌≢◌, ⊎_elim, ℕ, zero, suc, ℤ, ◌+◌, ◌<◌, ◌≤◌, true, false, List, [], ◌∷◌, length, get_or, Option, Some, None, IsTrue, refl, ap, sym, subst, ◌∙◌, arith}
 use Rattle.std.specs.Prelude.{IfNone, option_map}
 use Rattle.afl_base.specs.declared.kind.Kind.TheVariants.{Doubling, Fixed}
 use Rattle.afl_base.specs.Files.{File, IsNamed, IsUnnamed, State, Table, file_at, place}
@@ -7,17 +7,18 @@ use Rattle.afl_base.proofs.FileLaws.{named_live, place_live}
 use Rattle.catalog.specs.declared.types.Catalog.{Catalog}
 use Rattle.catalog.specs.declared.types.IndexEntry.{IndexEntry}
 use Rattle.catalog.specs.CatalogFile.{index_in}
-use Rattle.catalog.specs.Rules.{breaks_files, catalog_in, is_of_database, is_stranger, is_tree}
+use Rattle.catalog.specs.Rules.{breaks_files, catalog_in, is_stranger, is_tree}
 use Rattle.db_model.specs.declared.schemas.IndexKind.{IndexKind}
-use Rattle.db_model.specs.declared.schemas.IndexKind.TheVariants.{Inline, MaxHeap, MemHash}
+use Rattle.db_model.specs.declared.schemas.IndexKind.TheVariants.{MaxHeap}
 use Rattle.db_model.specs.Catalog.{Catalog as Slots, Index}
 use Rattle.index_tree.specs.Trees.{IsTreeOf}
 use Rattle.padded.proofs.Facts.{none_some, seen_at, some_same}
 use Rattle.space_model.specs.FileNames.{bytes_named, catalog_file, is_there, tree_file}
 use Rattle.stored.specs.Sound.{IsIndexComplete, keys_stored}
-use Rattle.stored.proofs.FilesOf.{by_kind, first_false, in_table, tree_wanted, unbroken}
+use Rattle.stored.proofs.FilesOf.{by_kind, first_false, tree_wanted, unbroken}
 use Rattle.stored.proofs.HasFiles.{no_stranger}
-use Rattle.stored_mend.specs.Complete.{AreComplete, AreKeysIn, CompletesFirst, CompletesSlot, HasSlot, IsComplete, IsSoundButTrees, LosesTree, SettlesIndex, SettlesSlot}
+use Rattle.stored_mend.proofs.ReportSteps.{kind_tree as tree_of}
+use Rattle.stored_mend.specs.Complete.{HasCompleteIndexes, AreKeysIn, CompletesFirst, CompletesSlot, HasSlot, HasCompleteIndex, IsSoundButTrees, LosesTree, SettlesIndex, SettlesSlot}
 use Rattle.stored_mend.specs.Listed.{LacksTree}
 use Rattle.stored_mend.specs.Trees.{ChangesAtMost, HasTreeNow, SparesButTree}
 use Rattle.stored_mend.proofs.Completing.{catalog_same, complete_next, lacks_tree, same_rows, slot_same, spared_by}
@@ -26,9 +27,6 @@ use Rattle.stored_mend.proofs.OneFile.{catalog_no_tree}
 use Rattle.stored_mend.proofs.Replaced.{name_of}
 use Rattle.stored_mend.proofs.SameRows.{keys_same}
 use Rattle.stored_mend.proofs.TreeFiles.{changes_same}
-
-tree_of : (index : Index) → index.kind ≡ MaxHeap → is_tree (Some index) ≡ true
-tree_of index e = ap (λ (kind : IndexKind). elim kind [ Inline ↦ false | MaxHeap ↦ true | MemHash ↦ false ]) e
 
 -- the index has its tree, in a file that doubles
 module _ (files : Table) (i : ℕ) (below : i < 8) (s : IsSoundButTrees files) (zs : List ℤ) (k : AreKeysIn files i zs) where
@@ -55,7 +53,7 @@ module _ (files : Table) (i : ℕ) (below : i < 8) (s : IsSoundButTrees files) (
       (by_kind f.name f.kind (no_stranger files id f at (first_false (is_stranger files) 32 id inside (unbroken files s.catalog).strangers)))
 
 -- with its tree the index is complete
-pub tree_keeps : (a b : State) (i : ℕ) (zs : List ℤ) → i < 8 → ChangesAtMost a b (tree_file i) → IsSoundButTrees a.files → AreKeysIn a.files i zs → HasTreeNow a.files b.files (tree_file i) zs → IsComplete b.files i
+pub tree_keeps : (a b : State) (i : ℕ) (zs : List ℤ) → i < 8 → ChangesAtMost a b (tree_file i) → IsSoundButTrees a.files → AreKeysIn a.files i zs → HasTreeNow a.files b.files (tree_file i) zs → HasCompleteIndex b.files i
 tree_keeps a b i zs below c s k now = record {
   keeps = λ index is.
       let bytes : List ℕ = bytes_named (tree_file i) b.files in
@@ -68,7 +66,7 @@ tree_keeps a b i zs below c s k now = record {
       (subst (λ (ks : List ℤ). IsTreeOf bytes ks) are tree));
 }
 
-pub tree_settles : (a b : State) (i : ℕ) → i < 8 → ChangesAtMost a b (tree_file i) → IsSoundButTrees a.files → IsComplete b.files i → SettlesIndex a.files b.files i
+pub tree_settles : (a b : State) (i : ℕ) → i < 8 → ChangesAtMost a b (tree_file i) → IsSoundButTrees a.files → HasCompleteIndex b.files i → SettlesIndex a.files b.files i
 tree_settles a b i below c s here = record { spares = spared_by a b i below c s; here = here }
 
 -- a tree that is gone is lacking
@@ -90,10 +88,10 @@ module _ (files : Table) (catalog : Catalog) (i : ℕ) (h : HasSlot files catalo
   pub slot_of_entry : (o : Option IndexEntry) → get_or catalog.indexes i None ≡ o → get_or (catalog_in files).indexes i None ≡ option_map index_in o
   slot_of_entry o e = sym h.index ∙ seen_at index_in catalog.indexes i ∙ ap (option_map index_in) e
 
-  pub none_keeps : get_or catalog.indexes i None ≡ None → IsComplete files i
+  pub none_keeps : get_or catalog.indexes i None ≡ None → HasCompleteIndex files i
   none_keeps e = record { keeps = λ index is. absurd (none_some index (sym (slot_of_entry None e) ∙ is)) }
 
-  pub other_keeps : (entry : IndexEntry) → get_or catalog.indexes i None ≡ Some entry → entry.kind ≢ MaxHeap → IsSoundButTrees files → IsComplete files i
+  pub other_keeps : (entry : IndexEntry) → get_or catalog.indexes i None ≡ Some entry → entry.kind ≢ MaxHeap → IsSoundButTrees files → HasCompleteIndex files i
   other_keeps entry e other s = record {
     keeps = λ index is.
         let same : index_in entry ≡ index = some_same (index_in entry) index (sym (slot_of_entry (Some entry) e) ∙ is) in
@@ -104,10 +102,10 @@ pub complete_settles : (a b : State) (catalog : Catalog) (i : ℕ) → i < 8 →
 complete_settles a b catalog i below c f = record { settles = λ told h s. tree_settles a b i below c s (f.complete told h s) }
 
 -- a slot without an index that has a tree
-pub slot_without : (a : State) (catalog : Catalog) (id slot : ℕ) → id ≡ slot → (HasSlot a.files catalog id → IsSoundButTrees a.files → IsComplete a.files id) → CompletesSlot a a catalog slot
-slot_without a catalog id slot same none = record { complete = λ told h s. subst (IsComplete a.files) same (none (subst (HasSlot a.files catalog) (sym same) h) s) }
+pub slot_without : (a : State) (catalog : Catalog) (id slot : ℕ) → id ≡ slot → (HasSlot a.files catalog id → IsSoundButTrees a.files → HasCompleteIndex a.files id) → CompletesSlot a a catalog slot
+slot_without a catalog id slot same none = record { complete = λ told h s. subst (HasCompleteIndex a.files) same (none (subst (HasSlot a.files catalog) (sym same) h) s) }
 
-pub settles_without : (a : State) (catalog : Catalog) (id slot : ℕ) → id ≡ slot → slot < 8 → (HasSlot a.files catalog id → IsSoundButTrees a.files → IsComplete a.files id) → SettlesSlot a a catalog slot
+pub settles_without : (a : State) (catalog : Catalog) (id slot : ℕ) → id ≡ slot → slot < 8 → (HasSlot a.files catalog id → IsSoundButTrees a.files → HasCompleteIndex a.files id) → SettlesSlot a a catalog slot
 settles_without a catalog id slot same below none = complete_settles a a catalog slot below (changes_same a (tree_file slot)) (slot_without a catalog id slot same none)
 
 -- ---- a slot, by the number that was made of it
@@ -120,7 +118,7 @@ module _ (a b : State) (catalog : Catalog) (id slot : ℕ) (zs : List ℤ) (same
   keys_here h s = read (subst (HasSlot a.files catalog) (sym same) h) s
 
   pub slot_complete : ChangesAtMost a b (tree_file id) → (IsTrue a.tells → HasTreeNow a.files b.files (tree_file id) zs) → CompletesSlot a b catalog slot
-  slot_complete c now = record { complete = λ told h s. subst (IsComplete b.files) same (tree_keeps a b id zs below_here c s (keys_here h s) (now told)) }
+  slot_complete c now = record { complete = λ told h s. subst (HasCompleteIndex b.files) same (tree_keeps a b id zs below_here c s (keys_here h s) (now told)) }
 
   pub slot_settled : ChangesAtMost a b (tree_file id) → (IsTrue a.tells → HasTreeNow a.files b.files (tree_file id) zs) → SettlesSlot a b catalog slot
   slot_settled c now = complete_settles a b catalog slot below (subst (λ (k : ℕ). ChangesAtMost a b (tree_file k)) same c) (slot_complete c now)
@@ -166,5 +164,5 @@ waiting_next s a b catalog i n m need below tells c before none here zero_all =
     let complete = subst (λ (o : Option ℕ). IfNone o (CompletesSlot a b catalog i)) (none (omega (arith, zero_all))) here in
     first_next s a b catalog i tells (before (omega (arith, zero_all))) (complete_settles a b catalog i below c complete)
 
-pub all_slots : (files : Table) (catalog : Catalog) (n : ℕ) → 8 ≤ n → n ≤ 8 → AreComplete files catalog n → AreComplete files catalog 8
-all_slots files catalog n low high c = let e : n ≡ 8 = omega (arith, low, high) in subst (AreComplete files catalog) e c
+pub all_slots : (files : Table) (catalog : Catalog) (n : ℕ) → 8 ≤ n → n ≤ 8 → HasCompleteIndexes files catalog n → HasCompleteIndexes files catalog 8
+all_slots files catalog n low high c = let e : n ≡ 8 = omega (arith, low, high) in subst (HasCompleteIndexes files catalog) e c

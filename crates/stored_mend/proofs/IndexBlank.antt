@@ -6,7 +6,7 @@ use Rattle.std.specs.Str.{bytes_eq}
 use Rattle.std.proofs.lemmas.Bool.{cases_eq}
 use Rattle.afl_base.specs.Fields.{put_at}
 use Rattle.afl_base.proofs.FieldLaws.{length-put_at}
-use Rattle.catalog.specs.Rules.{breaks_index, breaks_relation, has_form, how_many, is_behind, is_index_form, is_same_place, is_sound_index, is_sound_relation, is_table, is_third_table, stands_on}
+use Rattle.catalog.specs.Rules.{breaks_index, breaks_relation, has_form, how_many, is_behind, is_index_form, is_same_place, is_sound_index, is_sound_relation, is_table, is_surplus_table, stands_on}
 use Rattle.catalog.proofs.PutRanges.{before_put, behind_put, here_put, other_index_put}
 use Rattle.db_model.specs.declared.schemas.Schema.{Schema}
 use Rattle.db_model.specs.Catalog.{Index, catalog_of, index_at, index_slot_bytes, index_slot_of, relation_at, relation_slot_of, version_mark, version_of}
@@ -66,10 +66,10 @@ thinned_tables (x ∷ now) (y ∷ old) h =
 thinned_tables [] (y ∷ old) h = absurd h
 thinned_tables (x ∷ now) [] h = absurd h
 
-thinned_third : (index : Index) (now old : List (Option Index)) → IsThinned now old → is_third_table old index ≡ false → is_third_table now index ≡ false
+thinned_third : (index : Index) (now old : List (Option Index)) → IsThinned now old → is_surplus_table old index ≡ false → is_surplus_table now index ≡ false
 thinned_third index now old h e =
     let few = thinned_tables now old h in
-    false_by (is_third_table now index) (λ third.
+    false_by (is_surplus_table now index) (λ third.
     let parts = both_parts (is_hash_table index) (nat_le 2 (how_many is_table now)) third in
     let two = true_le 2 (how_many is_table now) parts.1 in
     let no : false ≡ true = sym e ∙ both_true (is_hash_table index) (nat_le 2 (how_many is_table old)) parts.0 (le_true 2 (how_many is_table old) (omega (arith, two, few))) in
@@ -80,11 +80,11 @@ thinned_behind : (relations : List (Option Schema)) (now old : List (Option Inde
 thinned_behind relations now old None h e = refl
 thinned_behind relations now old (Some index) h e =
     let stands : Bool = stands_on index (get_or relations index.relation None) in
-    let a = both_parts (stands && not (list_any (is_same_place index) old)) (not (is_third_table old index)) e in
+    let a = both_parts (stands && not (list_any (is_same_place index) old)) (not (is_surplus_table old index)) e in
     let b = both_parts stands (not (list_any (is_same_place index) old)) a.0 in
     let alone = thinned_alone index now old h (untrue (list_any (is_same_place index) old) b.1) in
-    let few = thinned_third index now old h (untrue (is_third_table old index) a.1) in
-    both_true (stands && not (list_any (is_same_place index) now)) (not (is_third_table now index))
+    let few = thinned_third index now old h (untrue (is_surplus_table old index) a.1) in
+    both_true (stands && not (list_any (is_same_place index) now)) (not (is_surplus_table now index))
     (both_true stands (not (list_any (is_same_place index) now)) b.0 (ap not alone))
     (ap not few)
 

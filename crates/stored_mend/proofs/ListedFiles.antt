@@ -16,7 +16,7 @@ use Rattle.stored.specs.Mended.{mended_base, mended_catalog, standing, whole_byt
 use Rattle.stored.specs.declared.half.Half.{Half}
 use Rattle.stored.specs.declared.half.Half.TheVariants.{Emptying, LoneTree}
 use Rattle.stored.proofs.SoundCut.{named_there}
-use Rattle.stored_mend.specs.Listed.{IsAhead, IsBare, IsDoneTo, IsListedTo, rows_below, trees_below}
+use Rattle.stored_mend.specs.Listed.{IsBeyond, IsBare, IsDoneTo, IsListedTo, rows_below, trees_below}
 use Rattle.stored_mend.proofs.CatalogRead.{no_tree_at, slot_byte, tree_at, unused_at}
 use Rattle.stored_mend.proofs.HalfKept.{index_at_slot, marked_as, relation_at_slot, without_rows, without_tree}
 use Rattle.stored_mend.proofs.HalfSettled.{rows_settled, tree_settled}
@@ -109,8 +109,8 @@ rows_removed old new id slot below r named first base l = record {
     files : (n : List ℕ) → n ≢ rows_file slot → file_named n new.files ≡ file_named n old.files
     files n differs = others_found old.files new.files (rows_file slot) n (removed_changes old new id (rows_file slot) r named) differs
 
-    settled : (half : Half) → IsAhead (rows_below slot) half → half ≡ Emptying slot → ⊥
-    settled half ahead e = let past : 8 ≤ slot = subst (IsAhead (rows_below slot)) e ahead in omega (arith, past, below)
+    settled : (half : Half) → IsBeyond (rows_below slot) half → half ≡ Emptying slot → ⊥
+    settled half ahead e = let past : 8 ≤ slot = subst (IsBeyond (rows_below slot)) e ahead in omega (arith, past, below)
 
     used : relation old.files slot ≡ None → (k : ℕ) (schema : Schema) → relation old.files k ≡ Some schema → bytes_named (rows_file k) new.files ≡ bytes_named (rows_file k) old.files
     used unused k schema is = ap bytes_in_file (files (rows_file k) (λ e. none_some schema (sym unused ∙ ap (relation old.files) (sym (same_rows_slot k slot e)) ∙ is)))

@@ -11,7 +11,7 @@ use Rattle.space_model.specs.FileNames.{bytes_in_file, catalog_file}
 use Rattle.stored.specs.CutTables.{IsBegun, IsBehindSlot, IsCutTable, IsHalfDone, IsMarkedInPart, IsTimed}
 use Rattle.stored.specs.declared.half.Half.{Half}
 use Rattle.stored.specs.declared.half.Half.TheVariants.{Nothing, Emptying, Growing, LoneRows, Treeless, LoneTree, AddingRow, AddingKey}
-use Rattle.stored_mend.specs.Listed.{IsAhead, IsListedTo, IsMarked, IsMarkedHalf, IsTakenBack, KeepsKnown, relations_below}
+use Rattle.stored_mend.specs.Listed.{IsBeyond, IsListedTo, IsMarked, IsMarkedHalf, IsTakenBack, KeepsKnown, relations_below}
 use Rattle.stored_mend.specs.Mending.{IsWholeCatalog}
 use Rattle.stored_mend.proofs.CatalogKept.{catalog_before}
 use Rattle.stored_mend.proofs.ListedFiles.{known_without}
@@ -70,7 +70,7 @@ taken_removed old new cat named only short r cut =
 
 -- ---- the mark
 
-ahead_first : (half : Half) → IsAhead (relations_below 0) half
+ahead_first : (half : Half) → IsBeyond (relations_below 0) half
 ahead_first Nothing = tt
 ahead_first (Emptying slot) = omega arith
 ahead_first (Growing slot) = omega arith

@@ -1,10 +1,9 @@
 -- Relation slots of files that a cut left, repaired one by one.
-use Rattle.std.proofs.Common.{◌≡◌, ◌≢◌, inl, inr, ⊎_elim, ℕ, ◌+◌, ◌-◌, ◌*◌, ◌<◌, ◌≤◌, Bool, true, false, ◌||◌, ◌==◌, List, [], ◌∷◌, ◌++◌, length, map, take, drop, replicate, get_or, Option, Some, None, if◌then◌else◌, IsTrue, refl, ap, sym, subst, ◌∙◌, arith}
+use Rattle.std.proofs.Common.{◌≡◌, ◌≢◌, inl, inr, ⊎_elim, ℕ, ◌+◌, ◌-◌, ◌*◌, ◌<◌, ◌≤◌, Bool, true, false, ◌||◌, ◌==◌, List, [], ◌∷◌, ◌++◌, length, take, drop, replicate, Option, Some, None, if◌then◌else◌, IsTrue, refl, ap, sym, subst, ◌∙◌, arith}
 use Rattle.std.specs.Prelude.{slice_index, slice_range}
-use Rattle.std.specs.List.{list_any, range_with_len}
+use Rattle.std.specs.List.{list_any}
 use Rattle.std.proofs.lemmas.List.{drop-drop, drop-take, length-replicate, take-take}
 use Rattle.std.proofs.lemmas.List.Folds.{list_any-append}
-use Rattle.std.proofs.lemmas.List.FromFn.{get_or-map-range_with_len}
 use Rattle.afl_base.specs.Fields.{put_at}
 use Rattle.afl_base.specs.Files.{Becomes, Overwrites, State, Table, bytes_at}
 use Rattle.afl_base.proofs.FileLaws.{named_live}
@@ -15,14 +14,15 @@ use Rattle.db_model.specs.declared.schemas.Domain.TheVariants.{Time}
 use Rattle.db_model.specs.declared.schemas.Schema.{Schema}
 use Rattle.db_model.specs.Catalog.{relation_at, relation_slot_bytes, relation_slot_of, schema_of}
 use Rattle.catalog.proofs.PutRanges.{here_put}
-use Rattle.padded.proofs.Facts.{either_right, none_some, none_there}
+use Rattle.padded.proofs.Facts.{either_right}
 use Rattle.padded.specs.Zeros.{is_zeros}
 use Rattle.space_model.specs.FileNames.{catalog_file}
+use Rattle.stored.proofs.SoundSlots.{none_at as nothing_at}
 use Rattle.stored.specs.CutTables.{IsSlot, IsTimed, relation, slot_bytes}
 use Rattle.stored.specs.Mended.{has_time, is_time_domain, mended_base, mended_catalog, whole_bytes, whole_catalog}
 use Rattle.stored.specs.declared.half.Half.{Half}
 use Rattle.stored.proofs.MendedBase.{whole_long}
-use Rattle.stored_mend.specs.Listed.{IsAhead, IsBare, IsDoneTo, IsListedTo, IsMarked, IsMarkedHalf, IsMarkedSlot, IsMarkedTo, KeepsKnown, Reach, relations_below}
+use Rattle.stored_mend.specs.Listed.{IsBeyond, IsBare, IsDoneTo, IsListedTo, IsMarked, IsMarkedHalf, IsMarkedSlot, IsMarkedTo, KeepsKnown, Reach, relations_below}
 use Rattle.stored_mend.specs.Mending.{IsStrangeSlot, IsWholeCatalog}
 use Rattle.stored_mend.proofs.CatalogKept.{after, catalog_before, whole_found}
 use Rattle.stored_mend.proofs.HalfKept.{relation_at_slot}
@@ -79,19 +79,13 @@ mark_long files slot differs m = ⊎_elim
     m
 
 -- the mark has been written
-pub marked_slot : (old new : Table) (slot : ℕ) (half : Half) → ((id : ℕ) → is_stranger old id ≡ false) → KeepsKnown old new → IsMarkedHalf new half → IsAhead (relations_below slot) half → IsMarkedSlot slot new
+pub marked_slot : (old new : Table) (slot : ℕ) (half : Half) → ((id : ℕ) → is_stranger old id ≡ false) → KeepsKnown old new → IsMarkedHalf new half → IsBeyond (relations_below slot) half → IsMarkedSlot slot new
 marked_slot old new slot half known keeps m ahead = record {
   listed = record { known = λ id. keeps id ∙ known id; left = inr (half, record { done = m.done; ahead = ahead; mark = inl m.marked }) };
   mark = inl m.marked;
 }
 
 -- ---- no catalog
-
-nothing_at : (k : ℕ) (schema : Schema) → k < 8 → relation_at [] k ≡ Some schema → ⊥
-nothing_at k schema below e =
-    let none : map (relation_at []) (range_with_len 0 8) ≡ replicate 8 None = refl in
-    let here : get_or (map (relation_at []) (range_with_len 0 8)) k None ≡ relation_at [] k = get_or-map-range_with_len (relation_at []) 0 8 k k None below (omega arith) in
-    none_some schema (sym (ap (λ (os : List (Option Schema)). get_or os k None) none ∙ none_there 8 k) ∙ here ∙ e)
 
 pub schema_not_bare : (files : Table) (rows slot : ℕ) (schema : Schema) → slot < 8 → relation_at (whole_catalog files) slot ≡ Some schema → IsBare files rows → ⊥
 schema_not_bare files rows slot schema below is bare =

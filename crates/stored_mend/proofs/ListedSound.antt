@@ -17,7 +17,7 @@ use Rattle.stored.specs.declared.half.Half.{Half}
 use Rattle.stored.specs.declared.half.Half.TheVariants.{Nothing, Emptying, LoneRows, Treeless, LoneTree}
 use Rattle.stored.proofs.MendedBase.{whole_long}
 use Rattle.stored.proofs.SoundSlots.{slot_below}
-use Rattle.stored_mend.specs.Listed.{IsAhead, IsBare, IsDoneTo, IsListedTo, IsMarked, trees_below}
+use Rattle.stored_mend.specs.Listed.{IsBeyond, IsBare, IsDoneTo, IsListedTo, IsMarked, trees_below}
 use Rattle.stored_mend.specs.Stages.{IsCatalogSound}
 use Rattle.stored_mend.proofs.HalfKept.{index_at_slot, relation_at_slot, relations_read}
 use Rattle.stored_mend.proofs.IndexGone.{files_kept, first_nothing}
@@ -64,9 +64,9 @@ module _ (files : Table) (half : Half) (known : (id : ℕ) → is_stranger files
     where
       by_slot : (o : Option Schema) → IsSlot half (mended_catalog files).version k (slot_bytes files k) o → is_relation_slot (mended_catalog files).version (slot_bytes files k) o ≡ true
       by_slot None (inl e) = e
-      by_slot None (inr part) = past k below (subst (IsAhead (trees_below 8)) part.0 d.ahead)
+      by_slot None (inr part) = past k below (subst (IsBeyond (trees_below 8)) part.0 d.ahead)
       by_slot (Some schema) (inl e) = e
-      by_slot (Some schema) (inr part) = past k below (subst (IsAhead (trees_below 8)) part.0 d.ahead)
+      by_slot (Some schema) (inr part) = past k below (subst (IsBeyond (trees_below 8)) part.0 d.ahead)
 
   relation_kept : (k : ℕ) → k < 8 → breaks_relation bytes k ≡ false
   unfolding breaks_relation
@@ -101,8 +101,8 @@ module _ (files : Table) (half : Half) (known : (id : ℕ) → is_stranger files
       (λ there. ⊎_elim
       (λ (used : is_some (relation files k) ≡ true). used)
       (λ (lone : (half ≡ LoneRows k) ⊎ (half ≡ Emptying k)). ⊎_elim
-      (λ (e : half ≡ LoneRows k). past k below (subst (IsAhead (trees_below 8)) e d.ahead))
-      (λ (e : half ≡ Emptying k). past k below (subst (IsAhead (trees_below 8)) e d.ahead))
+      (λ (e : half ≡ LoneRows k). past k below (subst (IsBeyond (trees_below 8)) e d.ahead))
+      (λ (e : half ≡ Emptying k). past k below (subst (IsBeyond (trees_below 8)) e d.ahead))
       lone)
       (d.done.rows_lone k below there))
       (λ used. d.done.rows_there k below (inl used))
@@ -113,11 +113,11 @@ module _ (files : Table) (half : Half) (known : (id : ℕ) → is_stranger files
       ∙ same_use (is_there (tree_file i) files) (is_tree (index_read files i))
       (λ there. ⊎_elim
       (λ (tree : is_tree (index_read files i) ≡ true). tree)
-      (λ (lone : (half ≡ LoneTree i) × (index_read files i ≡ None)). past i below (subst (IsAhead (trees_below 8)) lone.0 d.ahead))
+      (λ (lone : (half ≡ LoneTree i) × (index_read files i ≡ None)). past i below (subst (IsBeyond (trees_below 8)) lone.0 d.ahead))
       (d.done.tree_lone i below there))
       (λ tree. ⊎_elim
       (λ (there : is_there (tree_file i) files ≡ true). there)
-      (λ (e : half ≡ Treeless i). past i below (subst (IsAhead (trees_below 8)) e d.ahead))
+      (λ (e : half ≡ Treeless i). past i below (subst (IsBeyond (trees_below 8)) e d.ahead))
       (d.done.tree_there i below tree))
 
   pub catalog_sound : IsCatalogSound files half

@@ -14,7 +14,7 @@ use Rattle.stored.specs.Mended.{mended_base, mended_catalog, whole_catalog}
 use Rattle.stored.specs.declared.half.Half.{Half}
 use Rattle.stored.specs.declared.half.Half.TheVariants.{Nothing}
 use Rattle.stored.proofs.MendedBase.{slots_same, whole_long}
-use Rattle.stored_mend.specs.Listed.{HasWrittenCatalog, IsAhead, IsBare, IsDoneTo, IsListedTo, IsMarked, IsMarkedTo, IsTakenBack, Reach, relations_below}
+use Rattle.stored_mend.specs.Listed.{HasWrittenCatalog, IsBeyond, IsBare, IsDoneTo, IsListedTo, IsMarked, IsMarkedTo, IsTakenBack, Reach, relations_below}
 use Rattle.stored_mend.specs.Mending.{IsWholeCatalog}
 use Rattle.stored_mend.specs.Trees.{SparesButOne}
 use Rattle.stored_mend.proofs.CatalogKept.{catalog_before}
@@ -183,7 +183,7 @@ module _ (old new : Table) (slot : ℕ) (below : slot < 8) (spares : (n : List �
         (subst (λ (o : Option Schema). is_relation_slot (mended_catalog old).version (slot_bytes new slot) o ≡ true) (sym (relation_same old new base slot))
         (slot_valid half (mended_catalog old).version slot (slot_bytes old slot) (slot_bytes new slot) (relation old slot) (h.slots slot below) written))
 
-    pub slot_done : IsAhead (relations_below slot) half → IsMarkedTo old (slot + 1) → (after : Half) × IsDoneTo (relations_below (slot + 1)) new after
+    pub slot_done : IsBeyond (relations_below slot) half → IsMarkedTo old (slot + 1) → (after : Half) × IsDoneTo (relations_below (slot + 1)) new after
     slot_done ahead m = relation_settled new slot is_written (marked_to (slot + 1) m) half (half_written_slot (slot + 1) m) ahead
 
 -- ---- in the words of a step

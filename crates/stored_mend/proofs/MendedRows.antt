@@ -10,9 +10,9 @@ use Rattle.space_model.specs.FileNames.{rows_file}
 use Rattle.stored_mend.specs.Filled.{FillsRow}
 use Rattle.stored_mend.specs.Rows.{MayEndAt, whole_length, whole_rows}
 use Rattle.stored_mend.proofs.KeptBase.{whole_size}
-use Rattle.stored_mend.specs.Whole.{IsFileOf, IsFillable, MendsRows}
+use Rattle.stored_mend.specs.Whole.{IsOnlyFile, IsFillable, MendsRows}
 
-pub the_file : (files : Table) (name given : List ℕ) (file : ℕ) → given ≡ name → IsNamed files file given → ((k : ℕ) → IsNamed files k given → k ≡ file) → file < 32 → IsFileOf files name file
+pub the_file : (files : Table) (name given : List ℕ) (file : ℕ) → given ≡ name → IsNamed files file given → ((k : ℕ) → IsNamed files k given → k ≡ file) → file < 32 → IsOnlyFile files name file
 the_file files name given file same named only within = record {
   named = subst (IsNamed files file) same named;
   only = λ k h. only k (subst (IsNamed files k) (sym same) h);
@@ -28,7 +28,7 @@ part_there size n row m is same differs =
     (λ (more : n ≤ m * (n / m)). absurd (differs (let most = mul-div-le n m in omega (arith, most, more, is, front))))
     (cases_lt (m * (n / m)) n)
 
-module _ (catalog : Catalog) (relation : ℕ) (attributes : List Attribute) (old new : State) (file : ℕ) (is : IsFileOf old.files (rows_file relation) file) where
+module _ (catalog : Catalog) (relation : ℕ) (attributes : List Attribute) (old new : State) (file : ℕ) (is : IsOnlyFile old.files (rows_file relation) file) where
   module _ (part : whole_length attributes (bytes_at old.files file) < length (bytes_at old.files file)) (filled : Bool) (d : Decides filled (IsFillable catalog relation attributes (file_at old.files file))) where
     no_row : filled ≡ false → IsFillable catalog relation attributes (file_at old.files file) → ⊥
     no_row e may = let no : false ≡ true = sym e ∙ d.1 may in absurd (cc)

@@ -5,7 +5,7 @@ use Rattle.std.specs.List.{list_all, list_any, range_with_len}
 use Rattle.std.specs.Str.{bytes_eq}
 use Rattle.std.proofs.lemmas.List.FromFn.{get_or-map-range_with_len}
 use Rattle.afl_base.specs.Files.{Table}
-use Rattle.catalog.specs.Rules.{breaks_index, catalog_bytes_in, has_name, is_attribute_slot, is_behind, is_index_form, is_named_among, is_relation_slot, is_row, is_same_place, is_schema, is_sound_index, is_third_table, stands_on}
+use Rattle.catalog.specs.Rules.{breaks_index, catalog_bytes_in, has_name, is_attribute_slot, is_behind, is_index_form, is_named_among, is_relation_slot, is_row, is_same_place, is_schema, is_sound_index, is_surplus_table, stands_on}
 use Rattle.db_model.specs.declared.schemas.Attribute.{Attribute}
 use Rattle.db_model.specs.declared.schemas.Schema.{Schema}
 use Rattle.db_model.specs.Catalog.{Index, catalog_of, index_at, relation_at, relation_slot_bytes}
@@ -13,12 +13,12 @@ use Rattle.db_model.specs.Database.{is_among}
 use Rattle.db_model.specs.Names.{is_name}
 use Rattle.db_model.specs.Row.{row_length}
 use Rattle.db_model.specs.Sound.{are_distinct, attribute_names}
-use Rattle.padded.proofs.Facts.{both_parts, bytes_eq_same, eq_true, false_true, neither_less, none_some, none_there, not_not, some_same, untrue}
+use Rattle.padded.proofs.Facts.{both_parts, bytes_eq_same, eq_true, false_true, neither_less, not_not, some_same, untrue}
 use Rattle.stored.specs.CutTables.{IsBegun, IsCutTable, IsHalfDone, IsSlot, relation, slot_bytes}
 use Rattle.stored.specs.Mended.{mended_catalog, whole_catalog}
 use Rattle.stored.specs.declared.half.Half.{Half}
 use Rattle.stored.proofs.MendedBase.{whole_short}
-use Rattle.stored.proofs.SoundSlots.{among_first}
+use Rattle.stored.proofs.SoundSlots.{among_first, none_at as no_relation_at}
 use Rattle.stored_mend.specs.Reported.{HasNamesApart, IsIndexOn, IsOn, IsSlotOf, relation_seen}
 use Rattle.stored_mend.proofs.HalfKept.{relation_at_slot}
 use Rattle.stored_mend.proofs.ReportNames.{nothing_at}
@@ -79,7 +79,7 @@ alone_slot bytes j index fine is =
     let parts = both_parts (is_index_form here (Some index)) (is_behind relations before (Some index)) at in
     let stands : Bool = stands_on index (get_or relations index.relation None) in
     let same : Bool = list_any (is_same_place index) before in
-    let a = both_parts (stands && not same) (not (is_third_table before index)) parts.1 in
+    let a = both_parts (stands && not same) (not (is_surplus_table before index)) parts.1 in
     untrue same (both_parts stands (not same) a.0).1
 
 module _ (files : Table) (half : Half) (h : IsHalfDone files half) where
@@ -128,11 +128,6 @@ module _ (files : Table) (half : Half) (h : IsHalfDone files half) where
 
 no_relations : map (relation_at []) (range_with_len 0 8) ≡ replicate 8 None
 no_relations = refl
-
-no_relation_at : (k : ℕ) (schema : Schema) → k < 8 → relation_at [] k ≡ Some schema → ⊥
-no_relation_at k schema below e =
-    let here : get_or (map (relation_at []) (range_with_len 0 8)) k None ≡ relation_at [] k = get_or-map-range_with_len (relation_at []) 0 8 k k None below (omega arith) in
-    none_some schema (sym (ap (λ (os : List (Option Schema)). get_or os k None) no_relations ∙ none_there 8 k) ∙ here ∙ e)
 
 -- nothing stands in a catalog that was being begun
 begun_apart : (files : Table) → IsBegun files → HasNamesApart files

@@ -3,26 +3,21 @@ use Rattle.std.proofs.Common.{◌≡◌, ◌≢◌, ⊎_elim, inl, inr, ℕ, ◌
 use Rattle.std.specs.Prelude.{option_map, slice_range}
 use Rattle.afl_base.specs.Files.{File, Table}
 use Rattle.db_model.specs.Catalog.{index_at}
-use Rattle.space_model.specs.FileNames.{bytes_in_file, catalog_file, file_named, rows_file, size_in, tree_file}
+use Rattle.space_model.specs.FileNames.{catalog_file, file_named, rows_file, size_in, tree_file}
 use Rattle.stored.specs.CutTables.{slot_bytes}
 use Rattle.stored.specs.Mended.{whole_bytes, whole_catalog}
-use Rattle.stored_mend.specs.Reported.{IsCatalogGone, IsCatalogLonger, IsDone, IsReported, bytes_seen, index_seen}
+use Rattle.stored_mend.proofs.ReportTrees.{seen_bytes as bytes_by}
+use Rattle.stored_mend.specs.Reported.{IsCatalogGone, IsCatalogLonger, IsDone, IsReported, bytes_by_name, index_seen}
 use Rattle.stored_mend.specs.declared.report.Mended.{Mended as AnyMended}
 use Rattle.stored_mend.specs.declared.report.Mended.TheVariants.{Catalog, Mark, Relation, Attribute as OneAttribute, Row, Tree, Index as OneIndex, Stray}
 
-size_by : (o p : Option File) → option_map (λ (f : File). f.bytes) o ≡ option_map (λ (f : File). f.bytes) p → option_map (λ (f : File). length f.bytes) o ≡ option_map (λ (f : File). length f.bytes) p
+pub size_by : (o p : Option File) → option_map (λ (f : File). f.bytes) o ≡ option_map (λ (f : File). f.bytes) p → option_map (λ (f : File). length f.bytes) o ≡ option_map (λ (f : File). length f.bytes) p
 size_by None None e = refl
 size_by (Some f) (Some g) e = let same : f.bytes ≡ g.bytes = cc in ap (λ (xs : List ℕ). Some (length xs)) same
 size_by None (Some g) e = cc
 size_by (Some f) None e = cc
 
-bytes_by : (o p : Option File) → option_map (λ (f : File). f.bytes) o ≡ option_map (λ (f : File). f.bytes) p → bytes_in_file o ≡ bytes_in_file p
-bytes_by None None e = refl
-bytes_by (Some f) (Some g) e = cc
-bytes_by None (Some g) e = cc
-bytes_by (Some f) None e = cc
-
-module _ (old new late : Table) (seen : (name : List ℕ) → bytes_seen name late ≡ bytes_seen name new) where
+module _ (old new late : Table) (seen : (name : List ℕ) → bytes_by_name name late ≡ bytes_by_name name new) where
   size_as : size_in late catalog_file ≡ size_in new catalog_file
   size_as = size_by (file_named catalog_file late) (file_named catalog_file new) (seen catalog_file)
 
@@ -57,7 +52,7 @@ module _ (old new late : Table) (seen : (name : List ℕ) → bytes_seen name la
   done_as (OneIndex name attribute) d = record { i = d.i; index = d.index; on = d.on; gone = index_as d.i ∙ d.gone }
   done_as (Stray i) d = record { below = d.below; treeless = d.treeless; was = d.was; gone = seen (tree_file i) ∙ d.gone }
 
-pub reported_as : (old new late : Table) (lines : List AnyMended) → ((name : List ℕ) → bytes_seen name late ≡ bytes_seen name new) → IsReported old new lines → IsReported old late lines
+pub reported_as : (old new late : Table) (lines : List AnyMended) → ((name : List ℕ) → bytes_by_name name late ≡ bytes_by_name name new) → IsReported old new lines → IsReported old late lines
 reported_as old new late lines seen r = record {
   done = λ line there. done_as old new late seen line (r.done line there);
   told = λ line d. r.told line (done_as old late new (λ name. sym (seen name)) line d);

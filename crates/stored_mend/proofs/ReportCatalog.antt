@@ -20,7 +20,7 @@ use Rattle.stored.specs.CutTables.{slot_bytes}
 use Rattle.stored.specs.Mended.{whole_bytes, whole_catalog}
 use Rattle.stored.proofs.MendedBase.{whole_long}
 use Rattle.stored_mend.specs.Mending.{IsStrangeSlot, IsWholeCatalog}
-use Rattle.stored_mend.specs.Reported.{ChangesOnce, HasNames, IsCatalogGone, IsCatalogLonger, IsDone, IsIndexGone, IsOn, IsRightSlot, IsRightTree, IsSlotOf, IsTreeChanged, Reports, SparesSlots, bytes_seen, index_seen, relation_seen, tree_seen, with_line}
+use Rattle.stored_mend.specs.Reported.{ChangesOnce, HasNames, IsCatalogGone, IsCatalogLonger, IsDone, IsIndexGone, IsOn, IsRightSlot, IsRightTree, IsSlotOf, IsTreeChanged, Reports, SparesSlots, bytes_by_name, index_seen, relation_seen, tree_seen, with_line}
 use Rattle.stored_mend.specs.declared.report.Mended.{Mended as AnyMended}
 use Rattle.stored_mend.specs.declared.report.Mended.TheVariants.{Catalog, Mark, Relation, Attribute as OneAttribute, Tree, Index as OneIndex, Stray}
 use Rattle.stored_mend.proofs.CatalogKept.{after, catalog_none, catalog_short, whole_found}
@@ -59,10 +59,10 @@ module _ (old new : State) (cat : ℕ) (named : IsNamed old.files cat catalog_fi
 
   gone_trees : (i : ℕ) → tree_seen new.files i ≡ tree_seen old.files i
   gone_trees i =
-      ap (λ (xs : List ℕ). (index_at xs i, bytes_seen (tree_file i) new.files)) gone_whole
+      ap (λ (xs : List ℕ). (index_at xs i, bytes_by_name (tree_file i) new.files)) gone_whole
       ∙ ap (λ (y : Option (List ℕ)). (index_seen old.files i, y)) (seen_same old.files new.files catalog_file gone_changes (tree_file i) (λ e. catalog_no_tree i (sym e)))
 
-  gone_rows : (k : ℕ) → bytes_seen (rows_file k) new.files ≡ bytes_seen (rows_file k) old.files
+  gone_rows : (k : ℕ) → bytes_by_name (rows_file k) new.files ≡ bytes_by_name (rows_file k) old.files
   gone_rows k = seen_same old.files new.files catalog_file gone_changes (rows_file k) (λ e. catalog_no_rows k (sym e))
 
   gone_slots : (k : ℕ) → slot_bytes new.files k ≡ slot_bytes old.files k
@@ -110,12 +110,12 @@ module _ (old new : State) (cat total : ℕ) (bytes : List ℕ) (w : IsWholeCata
       ap (option_map (λ (f : File). length f.bytes)) (named_found new.files cat catalog_file (names cat ∙ w.named) (λ k h. w.only k (sym (names k) ∙ h)) ∙ place_live new.files cat b.live)
       ∙ ap (λ (n : ℕ). Some n) b.size
 
-  pub written_rows : (k : ℕ) → bytes_seen (rows_file k) new.files ≡ bytes_seen (rows_file k) old.files
+  pub written_rows : (k : ℕ) → bytes_by_name (rows_file k) new.files ≡ bytes_by_name (rows_file k) old.files
   written_rows k = seen_same old.files new.files catalog_file written_changes (rows_file k) (λ e. catalog_no_rows k (sym e))
 
   pub written_tree : (i : ℕ) → index_seen new.files i ≡ index_seen old.files i → tree_seen new.files i ≡ tree_seen old.files i
   written_tree i same =
-      ap (λ (x : Option Index). (x, bytes_seen (tree_file i) new.files)) same
+      ap (λ (x : Option Index). (x, bytes_by_name (tree_file i) new.files)) same
       ∙ ap (λ (y : Option (List ℕ)). (index_seen old.files i, y)) (seen_same old.files new.files catalog_file written_changes (tree_file i) (λ e. catalog_no_tree i (sym e)))
 
 -- what is missing of the mark
@@ -157,7 +157,7 @@ module _ (old new : State) (cat : ℕ) (more : List ℕ) (told : IsTrue old.tell
   mark_size : size_in old.files catalog_file ≡ Some (size_at old.files cat)
   mark_size = size_before old new cat (size_at old.files cat + length more) (mark_was ++ more) w a
 
-  mark_rows : (k : ℕ) → bytes_seen (rows_file k) new.files ≡ bytes_seen (rows_file k) old.files
+  mark_rows : (k : ℕ) → bytes_by_name (rows_file k) new.files ≡ bytes_by_name (rows_file k) old.files
   mark_rows k = written_rows old new cat (size_at old.files cat + length more) (mark_was ++ more) w a k
 
   mark_less : size_at old.files cat < 1480
@@ -231,7 +231,7 @@ module _ (old new : State) (cat slot at : ℕ) (part : List ℕ) (below : slot <
   pub slot_size : size_in new.files catalog_file ≡ size_in old.files catalog_file
   slot_size = size_after old new cat (size_at old.files cat) (put_at slot_was at part) w o ∙ sym (size_before old new cat (size_at old.files cat) (put_at slot_was at part) w o)
 
-  pub slot_rows : (k : ℕ) → bytes_seen (rows_file k) new.files ≡ bytes_seen (rows_file k) old.files
+  pub slot_rows : (k : ℕ) → bytes_by_name (rows_file k) new.files ≡ bytes_by_name (rows_file k) old.files
   slot_rows k = written_rows old new cat (size_at old.files cat) (put_at slot_was at part) w o k
 
   module _ (same : relation_seen new.files slot ≡ relation_seen old.files slot) (wrong : IsRightSlot (relation_seen old.files slot) (slot_bytes old.files slot) → ⊥)
@@ -278,10 +278,10 @@ module _ (old new : State) (cat slot at : ℕ) (part : List ℕ) (below : slot <
 
     -- without a relation: it is told here, or where its rows are removed
     pub emptied_reports : relation_seen old.files slot ≡ None → (before after : List AnyMended)
-        → (bytes_seen (rows_file slot) new.files ≡ None → after ≡ with_line before (Relation slot)) → (bytes_seen (rows_file slot) new.files ≢ None → after ≡ before) → Reports 1 old new before after
-    emptied_reports none before after line still = by_rows (bytes_seen (rows_file slot) new.files) refl
+        → (bytes_by_name (rows_file slot) new.files ≡ None → after ≡ with_line before (Relation slot)) → (bytes_by_name (rows_file slot) new.files ≢ None → after ≡ before) → Reports 1 old new before after
+    emptied_reports none before after line still = by_rows (bytes_by_name (rows_file slot) new.files) refl
       where
-        by_rows : (rows : Option (List ℕ)) → bytes_seen (rows_file slot) new.files ≡ rows → Reports 1 old new before after
+        by_rows : (rows : Option (List ℕ)) → bytes_by_name (rows_file slot) new.files ≡ rows → Reports 1 old new before after
         by_rows None gone =
             reports_line old new before after (Relation slot) slot_once (record { below = below; unused = none; gone = gone; changed = inl slot_changed })
             (λ line d. ⊎_elim
@@ -302,7 +302,7 @@ module _ (old new : State) (cat slot at : ℕ) (part : List ℕ) (below : slot <
 -- a slot without a name is emptied
 pub emptied_reported : (old new : State) (cat slot : ℕ) (read : List ℕ) (below : slot < 8) (told : IsTrue old.tells) (w : IsWholeCatalog old.files cat) → relation_seen old.files slot ≡ None
     → read ≡ slice_range (bytes_at old.files cat) (176 * slot) (176 * slot + 176) → read ≢ relation_slot_bytes None → Overwrites old new cat (176 * slot) (relation_slot_bytes None) → (before after : List AnyMended)
-    → (bytes_seen (rows_file slot) new.files ≡ None → after ≡ with_line before (Relation slot)) → (bytes_seen (rows_file slot) new.files ≢ None → after ≡ before) → Reports 1 old new before after
+    → (bytes_by_name (rows_file slot) new.files ≡ None → after ≡ with_line before (Relation slot)) → (bytes_by_name (rows_file slot) new.files ≢ None → after ≡ before) → Reports 1 old new before after
 emptied_reported old new cat slot read below told w none is differs o before after line still =
     let was : List ℕ = bytes_at old.files cat in
     let long = w.long in
@@ -400,17 +400,17 @@ module _ (old new : State) (cat slot : ℕ) (below : slot < 8) (told : IsTrue ol
   pub blank_spares : SparesSlots old.files new.files slot
   blank_spares = record { size = blank_size; slots = blank_slots; indexes = blank_index }
 
-  pub blank_rows : (k : ℕ) → bytes_seen (rows_file k) new.files ≡ bytes_seen (rows_file k) old.files
+  pub blank_rows : (k : ℕ) → bytes_by_name (rows_file k) new.files ≡ bytes_by_name (rows_file k) old.files
   blank_rows k = written_rows old new cat (size_at old.files cat) (put_at index_was (1408 + 8 * slot) (index_slot_bytes None)) w o k
 
   pub blank_trees : (i : ℕ) → i < 8 → i ≢ slot → tree_seen new.files i ≡ tree_seen old.files i
   blank_trees i inside differs = written_tree old new cat (size_at old.files cat) (put_at index_was (1408 + 8 * slot) (index_slot_bytes None)) w o i (blank_index i differs)
 
-  pub blank_tree : bytes_seen (tree_file slot) new.files ≡ bytes_seen (tree_file slot) old.files
+  pub blank_tree : bytes_by_name (tree_file slot) new.files ≡ bytes_by_name (tree_file slot) old.files
   blank_tree =
       seen_same old.files new.files catalog_file (becomes_changes old new cat (size_at old.files cat) (put_at index_was (1408 + 8 * slot) (index_slot_bytes None)) catalog_file o w.named) (tree_file slot) (λ e. catalog_no_tree slot (sym e))
 
-  module _ (index : Index) (stands : index_seen old.files slot ≡ Some index) (kind : index.kind ≡ MaxHeap) (none : bytes_seen (tree_file slot) old.files ≡ None) (name attribute : List ℕ) (on : IsOn old.files index name attribute) where
+  module _ (index : Index) (stands : index_seen old.files slot ≡ Some index) (kind : index.kind ≡ MaxHeap) (none : bytes_by_name (tree_file slot) old.files ≡ None) (name attribute : List ℕ) (on : IsOn old.files index name attribute) where
     blank_once : ChangesOnce old.files new.files
     blank_once = record {
       relations = λ k inside. ap relation_slot_of (blank_slots k inside);

@@ -8,7 +8,7 @@ use Rattle.std.proofs.lemmas.Grind.{common_steps}
 use Rattle.std.proofs.lemmas.Slice.Eq.{bytes_eq-Decides}
 use Rattle.std.specs.List.{list_any, range_with_len}
 use Rattle.afl_base.specs.Files.{Table}
-use Rattle.catalog.specs.Rules.{breaks_index, breaks_relation, broken_catalog, catalog_bytes_in, catalog_in, has_form, is_behind, is_index_form, is_named_among, is_relation_slot, is_same_place, is_sound_index, is_sound_relation, is_third_table, stands_on}
+use Rattle.catalog.specs.Rules.{breaks_index, breaks_relation, broken_catalog, catalog_bytes_in, catalog_in, has_form, is_behind, is_index_form, is_named_among, is_relation_slot, is_same_place, is_sound_index, is_sound_relation, is_surplus_table, stands_on}
 use Rattle.db_model.specs.declared.schemas.Attribute.{Attribute}
 use Rattle.db_model.specs.declared.schemas.Schema.{Schema}
 use Rattle.db_model.specs.Catalog.{Index, catalog_of, index_at, relation_at, relation_slot_bytes, version_of}
@@ -21,7 +21,7 @@ use Rattle.stored.specs.declared.half.Half.TheVariants.{Nothing, Emptying}
 use Rattle.stored.proofs.HasFiles.{formed}
 use Rattle.stored.proofs.MendedBase.{whole_long}
 use Rattle.stored.proofs.SoundSlots.{kept, unbroken_slots}
-use Rattle.stored_mend.specs.Listed.{IsAhead, IsBare, IsDoneTo, IsListedTo, indexes_below, rows_below}
+use Rattle.stored_mend.specs.Listed.{IsBeyond, IsBare, IsDoneTo, IsListedTo, indexes_below, rows_below}
 use Rattle.stored_mend.specs.Mending.{IsStrangeSlot}
 use Rattle.stored_mend.specs.Reported.{HasNames, IsOn, IsRightSlot, index_seen, relation_seen}
 use Rattle.stored_mend.proofs.HalfKept.{relation_at_slot}
@@ -53,7 +53,7 @@ on_slot files slot index fine is =
     let below : index.relation < 8 = true_lt index.relation 8 (both_parts (nat_lt index.relation 8) _ parts.0).0 in
     let stands : Bool = stands_on index (get_or relations index.relation None) in
     let same : Bool = list_any (is_same_place index) before in
-    let third : Bool = is_third_table before index in
+    let third : Bool = is_surplus_table before index in
     let a = both_parts (stands && not same) (not third) parts.1 in
     let b = both_parts stands (not same) a.0 in
     let read : get_or relations index.relation None ≡ relation_at bytes index.relation = get_or-map-range_with_len (relation_at bytes) 0 8 index.relation index.relation None below (omega arith) in
@@ -105,7 +105,7 @@ lone_slot files slot below l unused = ⊎_elim
     ⊎_elim
     (λ (written : is_relation_slot version (slot_bytes files slot) None ≡ true). inl ((bytes_eq-Decides (slot_bytes files slot) (relation_slot_bytes None)).0 written))
     (λ (part : (done.0 ≡ Emptying slot) × IsEmptiedInPart slot (slot_bytes files slot)).
-    let ahead : 8 ≤ slot = subst (IsAhead (rows_below slot)) part.0 done.1.ahead in absurd (omega (arith, below, ahead)))
+    let ahead : 8 ≤ slot = subst (IsBeyond (rows_below slot)) part.0 done.1.ahead in absurd (omega (arith, below, ahead)))
     here)
     l.left
 

@@ -9,7 +9,7 @@ use Rattle.catalog.specs.Rules.{is_tree}
 use Rattle.db_model.specs.Catalog.{Index}
 use Rattle.space_model.specs.FileNames.{catalog_file, rows_file, size_in, tree_file}
 use Rattle.stored.specs.CutTables.{slot_bytes}
-use Rattle.stored_mend.specs.Reported.{AreRightRows, ChangesOnce, HasNamesApart, IsCatalogGone, IsCatalogLonger, IsDone, IsIndexOn, IsKeptOrGone, IsOn, IsRelationGone, IsReported, IsRightCatalog, IsRightSlot, IsRightTree, IsSlotOf, Reports, StaysOrHasSlot, StaysOrIsRight, bytes_seen, index_seen, relation_seen, tree_seen}
+use Rattle.stored_mend.specs.Reported.{AreRightRows, ChangesOnce, HasNamesApart, IsCatalogGone, IsCatalogLonger, IsDone, IsIndexOn, IsKeptOrGone, IsOn, IsRelationGone, IsReported, IsRightCatalog, IsRightSlot, IsRightTree, IsSlotOf, Reports, StaysOrHasSlot, StaysOrIsRight, bytes_by_name, index_seen, relation_seen, tree_seen}
 use Rattle.stored_mend.specs.declared.report.Mended.{Mended as AnyMended}
 use Rattle.stored_mend.specs.declared.report.Mended.TheVariants.{Catalog, Mark, Relation, Attribute as OneAttribute, Row, Tree, Index as OneIndex, Stray}
 
@@ -129,12 +129,12 @@ pub record Once (a b c : Table) : Type 0 where
   pub second : (k : ℕ) → k < 8 → relation_seen c k ≡ relation_seen b k
   pub catalog : (size_in b catalog_file ≡ size_in a catalog_file) ⊎ (size_in c catalog_file ≡ size_in b catalog_file)
   pub slots : (k : ℕ) → k < 8 → (slot_bytes b k ≡ slot_bytes a k) ⊎ (slot_bytes c k ≡ slot_bytes b k)
-  pub rows : (k : ℕ) → k < 8 → (bytes_seen (rows_file k) b ≡ bytes_seen (rows_file k) a) ⊎ (bytes_seen (rows_file k) c ≡ bytes_seen (rows_file k) b)
+  pub rows : (k : ℕ) → k < 8 → (bytes_by_name (rows_file k) b ≡ bytes_by_name (rows_file k) a) ⊎ (bytes_by_name (rows_file k) c ≡ bytes_by_name (rows_file k) b)
   pub trees : (i : ℕ) → i < 8 → (tree_seen b i ≡ tree_seen a i) ⊎ (tree_seen c i ≡ tree_seen b i)
-  pub none : (k : ℕ) → k < 8 → bytes_seen (rows_file k) b ≡ None → bytes_seen (rows_file k) c ≡ None
+  pub none : (k : ℕ) → k < 8 → bytes_by_name (rows_file k) b ≡ None → bytes_by_name (rows_file k) c ≡ None
   pub kept : (i : ℕ) → i < 8 → IsKeptOrGone (index_seen a i) (index_seen b i)
   -- rows that no relation has go behind their slot
-  pub lone_rows : (k : ℕ) → k < 8 → relation_seen a k ≡ None → (bytes_seen (rows_file k) b ≡ bytes_seen (rows_file k) a) ⊎ (slot_bytes c k ≡ slot_bytes b k)
+  pub lone_rows : (k : ℕ) → k < 8 → relation_seen a k ≡ None → (bytes_by_name (rows_file k) b ≡ bytes_by_name (rows_file k) a) ⊎ (slot_bytes c k ≡ slot_bytes b k)
 
 module _ (a b : Table) (same : (k : ℕ) → k < 8 → relation_seen b k ≡ relation_seen a k) where
   pub slot_later : (k : ℕ) (name : List ℕ) → IsSlotOf a k name → IsSlotOf b k name
@@ -188,7 +188,7 @@ module _ (a b : Table) (same : (k : ℕ) → k < 8 → relation_seen b k ≡ rel
 module _ (a b c : Table) (o : Once a b c) (k : ℕ) where
   relation_split : IsRelationGone a c k → IsRelationGone a b k ⊎ IsRelationGone b c k
   relation_split d = ⊎_elim
-      (λ (same : bytes_seen (rows_file k) b ≡ bytes_seen (rows_file k) a). ⊎_elim
+      (λ (same : bytes_by_name (rows_file k) b ≡ bytes_by_name (rows_file k) a). ⊎_elim
       (λ (slot_same : slot_bytes b k ≡ slot_bytes a k). inr (record {
         below = d.below;
         unused = o.first k d.below ∙ d.unused;
@@ -197,7 +197,7 @@ module _ (a b c : Table) (o : Once a b c) (k : ℕ) where
       }))
       (λ (slot_later : slot_bytes c k ≡ slot_bytes b k). by_rows same slot_later d.changed)
       (o.slots k d.below))
-      (λ (same : bytes_seen (rows_file k) c ≡ bytes_seen (rows_file k) b). ⊎_elim
+      (λ (same : bytes_by_name (rows_file k) c ≡ bytes_by_name (rows_file k) b). ⊎_elim
       (λ (slot_same : slot_bytes b k ≡ slot_bytes a k). by_slot same slot_same d.changed)
       (λ (slot_later : slot_bytes c k ≡ slot_bytes b k). inl (record {
         below = d.below;
@@ -208,15 +208,15 @@ module _ (a b c : Table) (o : Once a b c) (k : ℕ) where
       (o.slots k d.below))
       (o.rows k d.below)
     where
-      by_slot : bytes_seen (rows_file k) c ≡ bytes_seen (rows_file k) b → slot_bytes b k ≡ slot_bytes a k → (slot_bytes c k ≢ slot_bytes a k) ⊎ (bytes_seen (rows_file k) a ≢ None) → IsRelationGone a b k ⊎ IsRelationGone b c k
+      by_slot : bytes_by_name (rows_file k) c ≡ bytes_by_name (rows_file k) b → slot_bytes b k ≡ slot_bytes a k → (slot_bytes c k ≢ slot_bytes a k) ⊎ (bytes_by_name (rows_file k) a ≢ None) → IsRelationGone a b k ⊎ IsRelationGone b c k
       by_slot same slot_same (inl slot) = inr (record { below = d.below; unused = o.first k d.below ∙ d.unused; gone = d.gone; changed = inl (λ e. slot (e ∙ slot_same)) })
       by_slot same slot_same (inr rows) = inl (record { below = d.below; unused = d.unused; gone = sym same ∙ d.gone; changed = inr rows })
 
-      by_rows : bytes_seen (rows_file k) b ≡ bytes_seen (rows_file k) a → slot_bytes c k ≡ slot_bytes b k → (slot_bytes c k ≢ slot_bytes a k) ⊎ (bytes_seen (rows_file k) a ≢ None) → IsRelationGone a b k ⊎ IsRelationGone b c k
+      by_rows : bytes_by_name (rows_file k) b ≡ bytes_by_name (rows_file k) a → slot_bytes c k ≡ slot_bytes b k → (slot_bytes c k ≢ slot_bytes a k) ⊎ (bytes_by_name (rows_file k) a ≢ None) → IsRelationGone a b k ⊎ IsRelationGone b c k
       by_rows same slot_later (inr rows) = inr (record { below = d.below; unused = o.first k d.below ∙ d.unused; gone = d.gone; changed = inr (λ e. rows (sym same ∙ e)) })
-      by_rows same slot_later (inl slot) = by_there (bytes_seen (rows_file k) b) refl
+      by_rows same slot_later (inl slot) = by_there (bytes_by_name (rows_file k) b) refl
         where
-          by_there : (rows : Option (List ℕ)) → bytes_seen (rows_file k) b ≡ rows → IsRelationGone a b k ⊎ IsRelationGone b c k
+          by_there : (rows : Option (List ℕ)) → bytes_by_name (rows_file k) b ≡ rows → IsRelationGone a b k ⊎ IsRelationGone b c k
           by_there None is = inl (record { below = d.below; unused = d.unused; gone = is; changed = inl (λ e. slot (slot_later ∙ e)) })
           by_there (Some bytes) is = inr (record {
             below = d.below;
@@ -247,17 +247,17 @@ module _ (a b c : Table) (o : Once a b c) (k : ℕ) where
         d.changed;
   }
     where
-      came : bytes_seen (rows_file k) a ≡ None → bytes_seen (rows_file k) b ≡ None
+      came : bytes_by_name (rows_file k) a ≡ None → bytes_by_name (rows_file k) b ≡ None
       came e = ⊎_elim
-          (λ (same : bytes_seen (rows_file k) b ≡ bytes_seen (rows_file k) a). same ∙ e)
-          (λ (same : bytes_seen (rows_file k) c ≡ bytes_seen (rows_file k) b). sym same ∙ d.gone)
+          (λ (same : bytes_by_name (rows_file k) b ≡ bytes_by_name (rows_file k) a). same ∙ e)
+          (λ (same : bytes_by_name (rows_file k) c ≡ bytes_by_name (rows_file k) b). sym same ∙ d.gone)
           (o.rows k d.below)
 
   relation_again : IsRelationGone a b k → IsRelationGone b c k → ⊥
   relation_again d e =
       let late : slot_bytes c k ≢ slot_bytes b k = ⊎_elim (λ slot. slot) (λ rows. absurd (rows d.gone)) e.changed in
       ⊎_elim
-      (λ (same : bytes_seen (rows_file k) b ≡ bytes_seen (rows_file k) a). ⊎_elim
+      (λ (same : bytes_by_name (rows_file k) b ≡ bytes_by_name (rows_file k) a). ⊎_elim
       (λ (early : slot_bytes b k ≡ slot_bytes a k). ⊎_elim (λ slot. slot early) (λ rows. rows (sym same ∙ d.gone)) d.changed)
       late
       (o.slots k d.below))
@@ -279,7 +279,7 @@ module _ (a b c : Table) (o : Once a b c) where
   done_split (Row name) d = ⊎_elim
       (λ early. inl (record { k = d.k; slot = d.slot; changed = early }))
       (λ late. inr (record { k = d.k; slot = slot_later a b o.first d.k name d.slot; changed = late }))
-      (split_seen (λ x y. y ≢ x) (bytes_seen (rows_file d.k) a) (bytes_seen (rows_file d.k) b) (bytes_seen (rows_file d.k) c) (o.rows d.k d.slot.below) d.changed)
+      (split_seen (λ x y. y ≢ x) (bytes_by_name (rows_file d.k) a) (bytes_by_name (rows_file d.k) b) (bytes_by_name (rows_file d.k) c) (o.rows d.k d.slot.below) d.changed)
   done_split (Tree name attribute) d = ⊎_elim
       (λ (early : IsOther d.index (tree_seen a d.i) (tree_seen b d.i)). inl (record { i = d.i; index = d.index; on = d.on; kind = d.kind; stays = early.1; changed = early.2 }))
       (λ (late : IsOther d.index (tree_seen b d.i) (tree_seen c d.i)). inr (record {
@@ -317,7 +317,7 @@ module _ (a b c : Table) (o : Once a b c) where
   done_early (Row name) d = record {
     k = d.k;
     slot = d.slot;
-    changed = early_seen (λ x y. y ≢ x) (bytes_seen (rows_file d.k) a) (bytes_seen (rows_file d.k) b) (bytes_seen (rows_file d.k) c) (o.rows d.k d.slot.below) (λ w. other_not w) d.changed;
+    changed = early_seen (λ x y. y ≢ x) (bytes_by_name (rows_file d.k) a) (bytes_by_name (rows_file d.k) b) (bytes_by_name (rows_file d.k) c) (o.rows d.k d.slot.below) (λ w. other_not w) d.changed;
   }
   done_early (Tree name attribute) d =
       let f : IsOther d.index (tree_seen a d.i) (tree_seen c d.i) =
@@ -344,7 +344,7 @@ module _ (a b c : Table) (o : Once a b c) where
   done_late (Row name) d = record {
     k = d.k;
     slot = slot_earlier a b o.first d.k name d.slot;
-    changed = late_seen (λ x y. y ≢ x) (bytes_seen (rows_file d.k) a) (bytes_seen (rows_file d.k) b) (bytes_seen (rows_file d.k) c) (o.rows d.k d.slot.below) (λ w. other_not w) d.changed;
+    changed = late_seen (λ x y. y ≢ x) (bytes_by_name (rows_file d.k) a) (bytes_by_name (rows_file d.k) b) (bytes_by_name (rows_file d.k) c) (o.rows d.k d.slot.below) (λ w. other_not w) d.changed;
   }
   done_late (Tree name attribute) d =
       let f : IsOther d.index (tree_seen a d.i) (tree_seen c d.i) =
@@ -380,13 +380,13 @@ module _ (a b c : Table) (o : Once a b c) where
   done_again n (Row name) d e =
       let k : d.k ≡ e.k = n.relations d.k e.k name d.slot (slot_earlier a b o.first e.k name e.slot) in
       ⊎_elim d.changed
-      (λ (same : bytes_seen (rows_file d.k) c ≡ bytes_seen (rows_file d.k) b). e.changed (subst (λ (j : ℕ). bytes_seen (rows_file j) c ≡ bytes_seen (rows_file j) b) k same))
+      (λ (same : bytes_by_name (rows_file d.k) c ≡ bytes_by_name (rows_file d.k) b). e.changed (subst (λ (j : ℕ). bytes_by_name (rows_file j) c ≡ bytes_by_name (rows_file j) b) k same))
       (o.rows d.k d.slot.below)
   done_again n (Tree name attribute) d e =
       let i : d.i ≡ e.i = n.indexes d.i e.i d.index e.index name attribute d.on (index_earlier a b o.first o.kept e.i e.index name attribute e.on) in
       ⊎_elim
       (λ (same : tree_seen b d.i ≡ tree_seen a d.i). d.changed (ap (λ (t : Option Index × Option (List ℕ)). t.1) same))
-      (λ (same : tree_seen c d.i ≡ tree_seen b d.i). e.changed (subst (λ (j : ℕ). bytes_seen (tree_file j) c ≡ bytes_seen (tree_file j) b) i (ap (λ (t : Option Index × Option (List ℕ)). t.1) same)))
+      (λ (same : tree_seen c d.i ≡ tree_seen b d.i). e.changed (subst (λ (j : ℕ). bytes_by_name (tree_file j) c ≡ bytes_by_name (tree_file j) b) i (ap (λ (t : Option Index × Option (List ℕ)). t.1) same)))
       (o.trees d.i d.on.below)
   done_again n (OneIndex name attribute) d e =
       let i : d.i ≡ e.i = n.indexes d.i e.i d.index e.index name attribute d.on (index_earlier a b o.first o.kept e.i e.index name attribute e.on) in
@@ -427,8 +427,8 @@ module _ (a b c : Table) (f : ChangesOnce a b) (g : ChangesOnce b c) where
   slots_second : (k : ℕ) → k < 8 → StaysOrIsRight (IsRightSlot (relation_seen a k)) (slot_bytes b k) (slot_bytes c k)
   slots_second k below = subst (λ r. StaysOrIsRight (IsRightSlot r) (slot_bytes b k) (slot_bytes c k)) (f.relations k below) (g.slots k below)
 
-  rows_second : (k : ℕ) → k < 8 → StaysOrIsRight (AreRightRows (relation_seen a k)) (bytes_seen (rows_file k) b) (bytes_seen (rows_file k) c)
-  rows_second k below = subst (λ r. StaysOrIsRight (AreRightRows r) (bytes_seen (rows_file k) b) (bytes_seen (rows_file k) c)) (f.relations k below) (g.rows k below)
+  rows_second : (k : ℕ) → k < 8 → StaysOrIsRight (AreRightRows (relation_seen a k)) (bytes_by_name (rows_file k) b) (bytes_by_name (rows_file k) c)
+  rows_second k below = subst (λ r. StaysOrIsRight (AreRightRows r) (bytes_by_name (rows_file k) b) (bytes_by_name (rows_file k) c)) (f.relations k below) (g.rows k below)
 
   -- a slot that is right and has no relation stays
   slot_stays : (k : ℕ) → k < 8 → relation_seen a k ≡ None → IsRightSlot None (slot_bytes b k) → slot_bytes c k ≡ slot_bytes b k
@@ -440,8 +440,8 @@ module _ (a b c : Table) (f : ChangesOnce a b) (g : ChangesOnce b c) where
 
   rows_behind : (k : ℕ) → k < 8 → relation_seen a k ≡ None → StaysOrHasSlot a c k
   rows_behind k below unused = ⊎_elim
-      (λ (late : bytes_seen (rows_file k) c ≡ bytes_seen (rows_file k) b). ⊎_elim
-      (λ (early : bytes_seen (rows_file k) b ≡ bytes_seen (rows_file k) a). inl (late ∙ early))
+      (λ (late : bytes_by_name (rows_file k) c ≡ bytes_by_name (rows_file k) b). ⊎_elim
+      (λ (early : bytes_by_name (rows_file k) b ≡ bytes_by_name (rows_file k) a). inl (late ∙ early))
       (λ (right : IsRightSlot None (slot_bytes b k)). inr (subst (IsRightSlot None) (sym (slot_stays k below unused right)) right))
       (f.lone_rows k below unused))
       (λ (right : IsRightSlot None (slot_bytes c k)). inr right)

@@ -12,7 +12,7 @@ use Rattle.space_model.specs.FileNames.{catalog_file, rows_file, size_in}
 use Rattle.stored.specs.CutTables.{slot_bytes}
 use Rattle.tuple_file.proofs.Slots.{slots_of_whole}
 use Rattle.stored_mend.specs.Filled.{FillsRow}
-use Rattle.stored_mend.specs.Reported.{AreRightRows, ChangesOnce, IsDone, IsSlotOf, Reports, bytes_seen, relation_seen, tree_seen, with_line}
+use Rattle.stored_mend.specs.Reported.{AreRightRows, ChangesOnce, IsDone, IsSlotOf, Reports, bytes_by_name, relation_seen, tree_seen, with_line}
 use Rattle.stored_mend.specs.Rows.{whole_length}
 use Rattle.stored_mend.specs.declared.report.Mended.{Mended as AnyMended}
 use Rattle.stored_mend.specs.declared.report.Mended.TheVariants.{Relation, Row}
@@ -30,18 +30,18 @@ module _ (old new : State) (slot file total : ℕ) (told : List ℕ) (schema : S
   row_changes : ChangesFile old.files new.files (rows_file slot)
   row_changes = becomes_changes old new file total told (rows_file slot) b named
 
-  row_before : bytes_seen (rows_file slot) old.files ≡ Some (bytes_at old.files file)
+  row_before : bytes_by_name (rows_file slot) old.files ≡ Some (bytes_at old.files file)
   row_before = ap (option_map (λ (f : File). f.bytes)) (named_found old.files file (rows_file slot) named only ∙ place_live old.files file (named_live old.files file (rows_file slot) named))
 
-  row_after : bytes_seen (rows_file slot) new.files ≡ Some (bytes_at new.files file)
+  row_after : bytes_by_name (rows_file slot) new.files ≡ Some (bytes_at new.files file)
   row_after =
       let names = names_stay old new file total told (named_live old.files file (rows_file slot) named) b in
       ap (option_map (λ (f : File). f.bytes)) (named_found new.files file (rows_file slot) (names file ∙ named) (λ k h. only k (sym (names k) ∙ h)) ∙ place_live new.files file b.live)
 
-  row_wrong : AreRightRows (Some schema) (bytes_seen (rows_file slot) old.files) → ⊥
+  row_wrong : AreRightRows (Some schema) (bytes_by_name (rows_file slot) old.files) → ⊥
   row_wrong right = let same = right (bytes_at old.files file) row_before in omega (arith, same, part)
 
-  row_right : AreRightRows (Some schema) (bytes_seen (rows_file slot) new.files)
+  row_right : AreRightRows (Some schema) (bytes_by_name (rows_file slot) new.files)
   row_right bytes seen =
       let both : Some (bytes_at new.files file) ≡ Some bytes = sym row_after ∙ seen in
       let same : bytes_at new.files file ≡ bytes = cc in
@@ -53,7 +53,7 @@ module _ (old new : State) (slot file total : ℕ) (told : List ℕ) (schema : S
   row_slots : (k : ℕ) → slot_bytes new.files k ≡ slot_bytes old.files k
   row_slots k = slot_same old.files new.files (rows_file slot) row_changes (catalog_no_rows slot) k
 
-  row_others : (k : ℕ) → k < 8 → k ≢ slot → bytes_seen (rows_file k) new.files ≡ bytes_seen (rows_file k) old.files
+  row_others : (k : ℕ) → k < 8 → k ≢ slot → bytes_by_name (rows_file k) new.files ≡ bytes_by_name (rows_file k) old.files
   row_others k inside differs = seen_same old.files new.files (rows_file slot) row_changes (rows_file k) (λ e. differs (same_rows_slot k slot e))
 
   row_trees : (i : ℕ) → tree_seen new.files i ≡ tree_seen old.files i
@@ -65,8 +65,8 @@ module _ (old new : State) (slot file total : ℕ) (told : List ℕ) (schema : S
     catalog = inl row_size;
     slots = λ k inside. inl (row_slots k);
     rows = λ k inside. ⊎_elim
-        (λ (here : k ≡ slot). inr (subst (λ (j : ℕ). (AreRightRows (relation_seen old.files j) (bytes_seen (rows_file j) old.files) → ⊥) × AreRightRows (relation_seen old.files j) (bytes_seen (rows_file j) new.files)) (sym here)
-        (subst (λ (r : Option Schema). (AreRightRows r (bytes_seen (rows_file slot) old.files) → ⊥) × AreRightRows r (bytes_seen (rows_file slot) new.files)) (sym is) (row_wrong, row_right))))
+        (λ (here : k ≡ slot). inr (subst (λ (j : ℕ). (AreRightRows (relation_seen old.files j) (bytes_by_name (rows_file j) old.files) → ⊥) × AreRightRows (relation_seen old.files j) (bytes_by_name (rows_file j) new.files)) (sym here)
+        (subst (λ (r : Option Schema). (AreRightRows r (bytes_by_name (rows_file slot) old.files) → ⊥) × AreRightRows r (bytes_by_name (rows_file slot) new.files)) (sym is) (row_wrong, row_right))))
         (λ (differs : k ≢ slot). inl (row_others k inside differs))
         (cases_eq k slot);
     lone_rows = λ k inside none. ⊎_elim

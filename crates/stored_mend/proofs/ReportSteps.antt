@@ -15,7 +15,7 @@ use Rattle.space_model.specs.FileNames.{bytes_in_file, catalog_file, file_named,
 use Rattle.stored.specs.CutTables.{slot_bytes}
 use Rattle.stored.specs.Mended.{whole_bytes, whole_catalog}
 use Rattle.stored.proofs.SoundCut.{named_there}
-use Rattle.stored_mend.specs.Reported.{AreRightRows, ChangesOnce, IsCatalogGone, IsCatalogLonger, IsDone, IsIndexGone, IsRightSlot, IsRightTree, IsSlotOf, IsTreeChanged, Reports, bytes_seen, index_seen, most_lines, relation_seen, tree_seen, with_line}
+use Rattle.stored_mend.specs.Reported.{AreRightRows, ChangesOnce, IsCatalogGone, IsCatalogLonger, IsDone, IsIndexGone, IsRightSlot, IsRightTree, IsSlotOf, IsTreeChanged, Reports, bytes_by_name, index_seen, most_lines, relation_seen, tree_seen, with_line}
 use Rattle.stored_mend.specs.declared.report.Mended.{Mended as AnyMended}
 use Rattle.stored_mend.specs.declared.report.Mended.TheVariants.{Catalog, Mark, Relation, Attribute as OneAttribute, Row, Tree, Index as OneIndex, Stray}
 use Rattle.stored_mend.proofs.OneFile.{ChangesFile, catalog_no_rows, catalog_no_tree, others_found, rows_no_tree, same_rows_slot, same_tree_slot, tree_no_rows}
@@ -58,7 +58,7 @@ module _ (old new : Table) where
   AreSlots Other = (k : ℕ) → k < 8 → Other k → slot_bytes new k ≡ slot_bytes old k
 
   abbrev AreRows : (ℕ → Type 0) → Type 0
-  AreRows Other = (k : ℕ) → k < 8 → Other k → bytes_seen (rows_file k) new ≡ bytes_seen (rows_file k) old
+  AreRows Other = (k : ℕ) → k < 8 → Other k → bytes_by_name (rows_file k) new ≡ bytes_by_name (rows_file k) old
 
   abbrev AreTrees : (ℕ → Type 0) → Type 0
   AreTrees Other = (i : ℕ) → i < 8 → Other i → tree_seen new i ≡ tree_seen old i
@@ -73,7 +73,7 @@ module _ (old new : Table) where
   index_stays name attribute d same = let no : Some d.index ≡ None = sym d.on.stands ∙ sym (ap (λ (t : Option Index × Option (List ℕ)). t.0) same) ∙ d.gone in cc
 
   -- of the catalog's size
-  pub catalog_line : ((k : ℕ) → k < 8 → slot_bytes new k ≡ slot_bytes old k) → ((k : ℕ) → k < 8 → bytes_seen (rows_file k) new ≡ bytes_seen (rows_file k) old) → ((i : ℕ) → i < 8 → tree_seen new i ≡ tree_seen old i)
+  pub catalog_line : ((k : ℕ) → k < 8 → slot_bytes new k ≡ slot_bytes old k) → ((k : ℕ) → k < 8 → bytes_by_name (rows_file k) new ≡ bytes_by_name (rows_file k) old) → ((i : ℕ) → i < 8 → tree_seen new i ≡ tree_seen old i)
       → (line : AnyMended) → IsDone old new line
       → ((line ≡ Catalog) × IsCatalogGone (size_in old catalog_file) (size_in new catalog_file)) ⊎ ((line ≡ Mark) × IsCatalogLonger (size_in old catalog_file) (size_in new catalog_file))
   catalog_line slots rows trees Catalog d = inl (refl, d)
@@ -150,7 +150,7 @@ module _ (old new : Table) where
 -- ---- one file has changed
 
 module _ (old new : Table) (name : List ℕ) (c : ChangesFile old new name) where
-  pub seen_same : (n : List ℕ) → n ≢ name → bytes_seen n new ≡ bytes_seen n old
+  pub seen_same : (n : List ℕ) → n ≢ name → bytes_by_name n new ≡ bytes_by_name n old
   seen_same n differs = ap (option_map (λ (f : File). f.bytes)) (others_found old new name n c differs)
 
   module _ (other : catalog_file ≢ name) where
@@ -173,23 +173,23 @@ module _ (old new : Table) (name : List ℕ) (c : ChangesFile old new name) wher
     index_same i = ap (λ (xs : List ℕ). index_at xs i) whole_same
 
     pub tree_same : (i : ℕ) → tree_file i ≢ name → tree_seen new i ≡ tree_seen old i
-    tree_same i differs = ap (λ (x : Option Index). (x, bytes_seen (tree_file i) new)) (index_same i) ∙ ap (λ (y : Option (List ℕ)). (index_seen old i, y)) (seen_same (tree_file i) differs)
+    tree_same i differs = ap (λ (x : Option Index). (x, bytes_by_name (tree_file i) new)) (index_same i) ∙ ap (λ (y : Option (List ℕ)). (index_seen old i, y)) (seen_same (tree_file i) differs)
 
 -- a file that is there, and one that is removed
-pub seen_there : (files : Table) (id : ℕ) (name : List ℕ) → IsNamed files id name → bytes_seen name files ≢ None
+pub seen_there : (files : Table) (id : ℕ) (name : List ℕ) → IsNamed files id name → bytes_by_name name files ≢ None
 seen_there files id name named none = by_file (file_named name files) (named_there files id name named) none
   where
     by_file : (o : Option File) → is_some o ≡ true → option_map (λ (f : File). f.bytes) o ≡ None → ⊥
     by_file None there none = cc
     by_file (Some f) there none = cc
 
-pub seen_gone : (old new : State) (id : ℕ) (name : List ℕ) → Removes old new id → IsNamed old.files id name → bytes_seen name new.files ≡ None
+pub seen_gone : (old new : State) (id : ℕ) (name : List ℕ) → Removes old new id → IsNamed old.files id name → bytes_by_name name new.files ≡ None
 seen_gone old new id name r named = ap (option_map (λ (f : File). f.bytes)) (named_none new.files name (subst (IsUnnamed new.files) (name_of old.files id name named) r.unnamed))
 
 -- rows are removed
 module _ (old new : State) (slot : ℕ) (below : slot < 8) (c : ChangesFile old.files new.files (rows_file slot)) (unused : relation_seen old.files slot ≡ None)
-    (right : IsRightSlot None (slot_bytes old.files slot)) (was : bytes_seen (rows_file slot) old.files ≢ None) (gone : bytes_seen (rows_file slot) new.files ≡ None) where
-  rows_other : (k : ℕ) → k < 8 → k ≢ slot → bytes_seen (rows_file k) new.files ≡ bytes_seen (rows_file k) old.files
+    (right : IsRightSlot None (slot_bytes old.files slot)) (was : bytes_by_name (rows_file slot) old.files ≢ None) (gone : bytes_by_name (rows_file slot) new.files ≡ None) where
+  rows_other : (k : ℕ) → k < 8 → k ≢ slot → bytes_by_name (rows_file k) new.files ≡ bytes_by_name (rows_file k) old.files
   rows_other k inside differs = seen_same old.files new.files (rows_file slot) c (rows_file k) (λ e. differs (same_rows_slot k slot e))
 
   trees_all : (i : ℕ) → tree_seen new.files i ≡ tree_seen old.files i
@@ -215,10 +215,10 @@ module _ (old new : State) (slot : ℕ) (below : slot < 8) (c : ChangesFile old.
     trees = λ i inside. inl (trees_all i);
   }
     where
-      by_unused : (k : ℕ) → k ≡ slot → (AreRightRows (relation_seen old.files k) (bytes_seen (rows_file k) old.files) → ⊥) × AreRightRows (relation_seen old.files k) (bytes_seen (rows_file k) new.files)
+      by_unused : (k : ℕ) → k ≡ slot → (AreRightRows (relation_seen old.files k) (bytes_by_name (rows_file k) old.files) → ⊥) × AreRightRows (relation_seen old.files k) (bytes_by_name (rows_file k) new.files)
       by_unused k here =
-          subst (λ (j : ℕ). (AreRightRows (relation_seen old.files j) (bytes_seen (rows_file j) old.files) → ⊥) × AreRightRows (relation_seen old.files j) (bytes_seen (rows_file j) new.files)) (sym here)
-          (subst (λ (r : Option Schema). (AreRightRows r (bytes_seen (rows_file slot) old.files) → ⊥) × AreRightRows r (bytes_seen (rows_file slot) new.files)) (sym unused) (was, gone))
+          subst (λ (j : ℕ). (AreRightRows (relation_seen old.files j) (bytes_by_name (rows_file j) old.files) → ⊥) × AreRightRows (relation_seen old.files j) (bytes_by_name (rows_file j) new.files)) (sym here)
+          (subst (λ (r : Option Schema). (AreRightRows r (bytes_by_name (rows_file slot) old.files) → ⊥) × AreRightRows r (bytes_by_name (rows_file slot) new.files)) (sym unused) (was, gone))
 
   pub rows_removed_reports : (before after : List AnyMended) → after ≡ with_line before (Relation slot) → Reports 1 old new before after
   rows_removed_reports before after is =
@@ -232,8 +232,8 @@ module _ (old new : State) (slot : ℕ) (below : slot < 8) (c : ChangesFile old.
 
 -- a tree is removed that no index has
 module _ (old new : State) (slot : ℕ) (below : slot < 8) (c : ChangesFile old.files new.files (tree_file slot)) (treeless : is_tree (index_seen old.files slot) ≡ false)
-    (was : bytes_seen (tree_file slot) old.files ≢ None) (gone : bytes_seen (tree_file slot) new.files ≡ None) where
-  stray_rows : (k : ℕ) → bytes_seen (rows_file k) new.files ≡ bytes_seen (rows_file k) old.files
+    (was : bytes_by_name (tree_file slot) old.files ≢ None) (gone : bytes_by_name (tree_file slot) new.files ≡ None) where
+  stray_rows : (k : ℕ) → bytes_by_name (rows_file k) new.files ≡ bytes_by_name (rows_file k) old.files
   stray_rows k = seen_same old.files new.files (tree_file slot) c (rows_file k) (rows_no_tree k slot)
 
   stray_other : (i : ℕ) → i < 8 → i ≢ slot → tree_seen new.files i ≡ tree_seen old.files i

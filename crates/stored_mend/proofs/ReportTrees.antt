@@ -20,9 +20,9 @@ use Rattle.stored.specs.CutTables.{slot_bytes}
 use Rattle.stored.specs.Mended.{whole_bytes, whole_catalog}
 use Rattle.stored.specs.Sound.{IsIndexComplete, keys_stored}
 use Rattle.stored.proofs.FilesOf.{unbroken}
-use Rattle.stored_mend.specs.Complete.{AreKeysIn, HasSlot, IsComplete, IsSoundButTrees, SparesOtherIndexes}
+use Rattle.stored_mend.specs.Complete.{AreKeysIn, HasSlot, HasCompleteIndex, IsSoundButTrees, SparesOtherIndexes}
 use Rattle.stored_mend.specs.Listed.{LacksTree}
-use Rattle.stored_mend.specs.Reported.{ChangesOnce, HasNamesApart, IsCatalogGone, IsCatalogLonger, IsDone, IsIndexGone, IsNoTree, IsOn, IsReported, IsRightTree, IsTreeChanged, Reports, ReportsInTurn, ReportsTrees, SparesSlots, TreesChangeOnce, bytes_seen, index_seen, most_lines, relation_seen, tree_seen, with_line}
+use Rattle.stored_mend.specs.Reported.{ChangesOnce, HasNamesApart, IsCatalogGone, IsCatalogLonger, IsDone, IsIndexGone, IsOtherTree, IsOn, IsReported, IsRightTree, IsTreeChanged, Reports, ReportsInTurn, ReportsTrees, SparesSlots, TreesChangeOnce, bytes_by_name, index_seen, most_lines, relation_seen, tree_seen, with_line}
 use Rattle.stored_mend.specs.Trees.{SparesButOne, SparesButTree}
 use Rattle.stored_mend.specs.declared.report.Mended.{Mended as AnyMended}
 use Rattle.stored_mend.specs.declared.report.Mended.TheVariants.{Catalog, Mark, Tree, Index as OneIndex, Stray}
@@ -57,9 +57,9 @@ module _ (a b c : Table) (f : TreesChangeOnce a b) (g : TreesChangeOnce b c) whe
     trees = λ i below. ⊎_elim
         (λ (same : tree_seen b i ≡ tree_seen a i). ⊎_elim
         (λ (stays : tree_seen c i ≡ tree_seen b i). inl (stays ∙ same))
-        (λ (moved : (IsComplete b i → ⊥) × IsComplete c i). inr ((λ whole. moved.0 (f.complete i below whole)), moved.1))
+        (λ (moved : (HasCompleteIndex b i → ⊥) × HasCompleteIndex c i). inr ((λ whole. moved.0 (f.complete i below whole)), moved.1))
         (g.trees i below))
-        (λ (moved : (IsComplete a i → ⊥) × IsComplete b i). inr (moved.0, g.complete i below moved.1))
+        (λ (moved : (HasCompleteIndex a i → ⊥) × HasCompleteIndex b i). inr (moved.0, g.complete i below moved.1))
         (f.trees i below);
     complete = λ i below whole. g.complete i below (f.complete i below whole);
   }
@@ -73,9 +73,9 @@ module _ (a b c : Table) (f : TreesChangeOnce a b) (g : TreesChangeOnce b c) whe
     rows = λ k below. inl (f.rows k below);
     trees = λ i below. ⊎_elim
         (λ (same : tree_seen b i ≡ tree_seen a i). inl same)
-        (λ (moved : (IsComplete a i → ⊥) × IsComplete b i). ⊎_elim
+        (λ (moved : (HasCompleteIndex a i → ⊥) × HasCompleteIndex b i). ⊎_elim
         (λ (stays : tree_seen c i ≡ tree_seen b i). inr stays)
-        (λ (again : (IsComplete b i → ⊥) × IsComplete c i). absurd (again.0 moved.1))
+        (λ (again : (HasCompleteIndex b i → ⊥) × HasCompleteIndex c i). absurd (again.0 moved.1))
         (g.trees i below))
         (f.trees i below);
     none = λ k below none. g.rows k below ∙ none;
@@ -121,7 +121,7 @@ reports_trees_quiet n a b before after once none same = record {
 
 -- where all is as it was nothing was done
 pub nothing_changed : (old new : Table) → size_in new catalog_file ≡ size_in old catalog_file → ((k : ℕ) → k < 8 → slot_bytes new k ≡ slot_bytes old k)
-    → ((k : ℕ) → k < 8 → bytes_seen (rows_file k) new ≡ bytes_seen (rows_file k) old) → ((i : ℕ) → i < 8 → tree_seen new i ≡ tree_seen old i) → (line : AnyMended) → IsDone old new line → ⊥
+    → ((k : ℕ) → k < 8 → bytes_by_name (rows_file k) new ≡ bytes_by_name (rows_file k) old) → ((i : ℕ) → i < 8 → tree_seen new i ≡ tree_seen old i) → (line : AnyMended) → IsDone old new line → ⊥
 nothing_changed old new size slots rows trees line d = ⊎_elim
     (λ (gone : (line ≡ Catalog) × IsCatalogGone (size_in old catalog_file) (size_in new catalog_file)). gone_not (size_in old catalog_file) (subst (IsCatalogGone (size_in old catalog_file)) size gone.1))
     (λ (longer : (line ≡ Mark) × IsCatalogLonger (size_in old catalog_file) (size_in new catalog_file)). longer_not (size_in old catalog_file) (subst (IsCatalogLonger (size_in old catalog_file)) size longer.1))
@@ -151,7 +151,7 @@ reports_trees_line a b before after line once done only is = record {
 
 -- ---- the file of a tree alone has changed
 
-seen_bytes : (o p : Option File) → option_map (λ (f : File). f.bytes) o ≡ option_map (λ (f : File). f.bytes) p → bytes_in_file o ≡ bytes_in_file p
+pub seen_bytes : (o p : Option File) → option_map (λ (f : File). f.bytes) o ≡ option_map (λ (f : File). f.bytes) p → bytes_in_file o ≡ bytes_in_file p
 seen_bytes None None e = refl
 seen_bytes (Some f) (Some g) e = cc
 seen_bytes None (Some g) e = cc
@@ -176,12 +176,12 @@ module _ (old new : Table) (slot : ℕ) (files : (n : List ℕ) → n ≢ tree_f
   pub one_index : (i : ℕ) → index_seen new i ≡ index_seen old i
   one_index i = ap (λ (xs : List ℕ). index_at xs i) one_whole
 
-  pub one_rows : (k : ℕ) → bytes_seen (rows_file k) new ≡ bytes_seen (rows_file k) old
+  pub one_rows : (k : ℕ) → bytes_by_name (rows_file k) new ≡ bytes_by_name (rows_file k) old
   one_rows k = ap (option_map (λ (f : File). f.bytes)) (files (rows_file k) (rows_no_tree k slot))
 
   pub one_tree : (i : ℕ) → i ≢ slot → tree_seen new i ≡ tree_seen old i
   one_tree i differs =
-      ap (λ (x : Option Index). (x, bytes_seen (tree_file i) new)) (one_index i)
+      ap (λ (x : Option Index). (x, bytes_by_name (tree_file i) new)) (one_index i)
       ∙ ap (λ (y : Option (List ℕ)). (index_seen old i, y)) (ap (option_map (λ (f : File). f.bytes)) (files (tree_file i) (λ e. differs (same_tree_slot i slot e))))
 
   one_have : HaveSameRows old new
@@ -195,23 +195,23 @@ module _ (old new : Table) (slot : ℕ) (files : (n : List ℕ) → n ≢ tree_f
   one_back = record { version = sym one_have.version; relations = sym one_have.relations; rows = λ k. sym (one_have.rows k) }
 
   -- with the bytes that it had the index is as complete as it was
-  module _ (same : bytes_seen (tree_file slot) new ≡ bytes_seen (tree_file slot) old) where
+  module _ (same : bytes_by_name (tree_file slot) new ≡ bytes_by_name (tree_file slot) old) where
     bytes_same : bytes_named (tree_file slot) new ≡ bytes_named (tree_file slot) old
     bytes_same = seen_bytes (file_named (tree_file slot) new) (file_named (tree_file slot) old) same
 
     index_as : get_or (catalog_in new).indexes slot None ≡ get_or (catalog_in old).indexes slot None
     index_as = ap (λ (slots : Slots). get_or slots.indexes slot None) one_catalog
 
-    pub complete_as : IsComplete old slot → IsComplete new slot
+    pub complete_as : HasCompleteIndex old slot → HasCompleteIndex new slot
     complete_as c = record { keeps = index_keeps old new one_have slot index_as bytes_same c.keeps }
 
-    pub complete_back : IsComplete new slot → IsComplete old slot
+    pub complete_back : HasCompleteIndex new slot → HasCompleteIndex old slot
     complete_back c = record { keeps = index_keeps new old one_back slot (sym index_as) (sym bytes_same) c.keeps }
 
     pub one_all : (i : ℕ) → tree_seen new i ≡ tree_seen old i
     one_all i = ⊎_elim
         (λ (here : i ≡ slot). subst (λ (j : ℕ). tree_seen new j ≡ tree_seen old j) (sym here)
-        (ap (λ (x : Option Index). (x, bytes_seen (tree_file slot) new)) (one_index slot) ∙ ap (λ (y : Option (List ℕ)). (index_seen old slot, y)) same))
+        (ap (λ (x : Option Index). (x, bytes_by_name (tree_file slot) new)) (one_index slot) ∙ ap (λ (y : Option (List ℕ)). (index_seen old slot, y)) same))
         (λ (differs : i ≢ slot). one_tree i differs)
         (cases_eq i slot)
 
@@ -222,7 +222,7 @@ module _ (old new : State) (slot : ℕ) (below : slot < 8) (spares : SparesButTr
   files_same n differs = spares.spares.files n differs
 
   -- it has the same bytes
-  pub waits_reports : bytes_seen (tree_file slot) new.files ≡ bytes_seen (tree_file slot) old.files → (n : ℕ) (before after : List AnyMended) → after ≡ before → ReportsTrees n old new before after
+  pub waits_reports : bytes_by_name (tree_file slot) new.files ≡ bytes_by_name (tree_file slot) old.files → (n : ℕ) (before after : List AnyMended) → after ≡ before → ReportsTrees n old new before after
   waits_reports same n before after lines =
       reports_trees_quiet n old new before after
       (record {
@@ -233,7 +233,7 @@ module _ (old new : State) (slot : ℕ) (below : slot < 8) (spares : SparesButTr
         indexes = λ i inside. inl (one_index old.files new.files slot files_same i);
         trees = λ i inside. inl (one_all old.files new.files slot files_same same i);
         complete = λ i inside whole. ⊎_elim
-            (λ (here : i ≡ slot). subst (IsComplete new.files) (sym here) (complete_as old.files new.files slot files_same same (subst (IsComplete old.files) here whole)))
+            (λ (here : i ≡ slot). subst (HasCompleteIndex new.files) (sym here) (complete_as old.files new.files slot files_same same (subst (HasCompleteIndex old.files) here whole)))
             (λ (differs : i ≢ slot). others.complete i differs whole)
             (cases_eq i slot);
       })
@@ -242,7 +242,7 @@ module _ (old new : State) (slot : ℕ) (below : slot < 8) (spares : SparesButTr
       lines
 
   -- it has become complete
-  module _ (wrong : IsComplete old.files slot → ⊥) (right : IsComplete new.files slot) where
+  module _ (wrong : HasCompleteIndex old.files slot → ⊥) (right : HasCompleteIndex new.files slot) where
     built_once : TreesChangeOnce old.files new.files
     built_once = record {
       relations = λ k inside. one_relations old.files new.files slot files_same k;
@@ -251,11 +251,11 @@ module _ (old new : State) (slot : ℕ) (below : slot < 8) (spares : SparesButTr
       rows = λ k inside. one_rows old.files new.files slot files_same k;
       indexes = λ i inside. inl (one_index old.files new.files slot files_same i);
       trees = λ i inside. ⊎_elim
-          (λ (here : i ≡ slot). inr (subst (λ (j : ℕ). (IsComplete old.files j → ⊥) × IsComplete new.files j) (sym here) (wrong, right)))
+          (λ (here : i ≡ slot). inr (subst (λ (j : ℕ). (HasCompleteIndex old.files j → ⊥) × HasCompleteIndex new.files j) (sym here) (wrong, right)))
           (λ (differs : i ≢ slot). inl (one_tree old.files new.files slot files_same i differs))
           (cases_eq i slot);
       complete = λ i inside whole. ⊎_elim
-          (λ (here : i ≡ slot). subst (IsComplete new.files) (sym here) right)
+          (λ (here : i ≡ slot). subst (HasCompleteIndex new.files) (sym here) right)
           (λ (differs : i ≢ slot). others.complete i differs whole)
           (cases_eq i slot);
     }
@@ -299,27 +299,27 @@ module _ (old new : State) (slot : ℕ) (below : slot < 8) (spares : SparesButTr
 
 -- ---- a tree that is lost, and whose index is taken back
 
-module _ (old mid new : State) (slot : ℕ) (below : slot < 8) (spares : SparesButTree old mid (tree_file slot)) (gone : bytes_seen (tree_file slot) mid.files ≡ None)
+module _ (old mid new : State) (slot : ℕ) (below : slot < 8) (spares : SparesButTree old mid (tree_file slot)) (gone : bytes_by_name (tree_file slot) mid.files ≡ None)
     (catalog : SparesButOne mid new catalog_file) (slots : SparesSlots mid.files new.files slot) (none : index_seen new.files slot ≡ None)
-    (others : SparesOtherIndexes old.files new.files slot) (wrong : IsComplete old.files slot → ⊥) (right : IsComplete new.files slot) (tree : is_tree (index_seen old.files slot) ≡ true) where
+    (others : SparesOtherIndexes old.files new.files slot) (wrong : HasCompleteIndex old.files slot → ⊥) (right : HasCompleteIndex new.files slot) (tree : is_tree (index_seen old.files slot) ≡ true) where
   abbrev lost_files : (n : List ℕ) → n ≢ tree_file slot → file_named n mid.files ≡ file_named n old.files
   lost_files n differs = spares.spares.files n differs
 
   lost_slots : (k : ℕ) → k < 8 → slot_bytes new.files k ≡ slot_bytes old.files k
   lost_slots k inside = slots.slots k inside ∙ one_slots old.files mid.files slot lost_files k
 
-  mid_rows : (k : ℕ) → bytes_seen (rows_file k) new.files ≡ bytes_seen (rows_file k) mid.files
+  mid_rows : (k : ℕ) → bytes_by_name (rows_file k) new.files ≡ bytes_by_name (rows_file k) mid.files
   mid_rows k = ap (option_map (λ (f : File). f.bytes)) (catalog.files (rows_file k) (λ e. catalog_no_rows k (sym e)))
 
-  lost_rows : (k : ℕ) → bytes_seen (rows_file k) new.files ≡ bytes_seen (rows_file k) old.files
+  lost_rows : (k : ℕ) → bytes_by_name (rows_file k) new.files ≡ bytes_by_name (rows_file k) old.files
   lost_rows k = mid_rows k ∙ one_rows old.files mid.files slot lost_files k
 
-  mid_tree : (i : ℕ) → bytes_seen (tree_file i) new.files ≡ bytes_seen (tree_file i) mid.files
+  mid_tree : (i : ℕ) → bytes_by_name (tree_file i) new.files ≡ bytes_by_name (tree_file i) mid.files
   mid_tree i = ap (option_map (λ (f : File). f.bytes)) (catalog.files (tree_file i) (λ e. catalog_no_tree i (sym e)))
 
   mid_trees : (i : ℕ) → i ≢ slot → tree_seen new.files i ≡ tree_seen mid.files i
   mid_trees i differs =
-      ap (λ (x : Option Index). (x, bytes_seen (tree_file i) new.files)) (slots.indexes i differs) ∙ ap (λ (y : Option (List ℕ)). (index_seen mid.files i, y)) (mid_tree i)
+      ap (λ (x : Option Index). (x, bytes_by_name (tree_file i) new.files)) (slots.indexes i differs) ∙ ap (λ (y : Option (List ℕ)). (index_seen mid.files i, y)) (mid_tree i)
 
   lost_trees : (i : ℕ) → i ≢ slot → tree_seen new.files i ≡ tree_seen old.files i
   lost_trees i differs = mid_trees i differs ∙ one_tree old.files mid.files slot lost_files i differs
@@ -338,11 +338,11 @@ module _ (old mid new : State) (slot : ℕ) (below : slot < 8) (spares : SparesB
         (λ (differs : i ≢ slot). inl (slots.indexes i differs ∙ one_index old.files mid.files slot lost_files i))
         (cases_eq i slot);
     trees = λ i inside. ⊎_elim
-        (λ (here : i ≡ slot). inr (subst (λ (j : ℕ). (IsComplete old.files j → ⊥) × IsComplete new.files j) (sym here) (wrong, right)))
+        (λ (here : i ≡ slot). inr (subst (λ (j : ℕ). (HasCompleteIndex old.files j → ⊥) × HasCompleteIndex new.files j) (sym here) (wrong, right)))
         (λ (differs : i ≢ slot). inl (lost_trees i differs))
         (cases_eq i slot);
     complete = λ i inside whole. ⊎_elim
-        (λ (here : i ≡ slot). subst (IsComplete new.files) (sym here) right)
+        (λ (here : i ≡ slot). subst (HasCompleteIndex new.files) (sym here) right)
         (λ (differs : i ≢ slot). others.complete i differs whole)
         (cases_eq i slot);
   }
@@ -409,7 +409,7 @@ module _ (old mid new : State) (slot : ℕ) (below : slot < 8) (spares : SparesB
 
 -- ---- what a catalog in memory says of an index that has a tree
 
-pub not_complete : (files : Table) (slot : ℕ) (zs : List ℤ) → AreKeysIn files slot zs → IsNoTree files (tree_file slot) zs → IsComplete files slot → ⊥
+pub not_complete : (files : Table) (slot : ℕ) (zs : List ℤ) → AreKeysIn files slot zs → IsOtherTree files (tree_file slot) zs → HasCompleteIndex files slot → ⊥
 not_complete files slot zs k no_tree c =
     let whole : IsIndexComplete k.index.kind (bytes_named (tree_file slot) files) (keys_stored files k.index) = c.keeps k.index k.stands in
     let tree : IsTreeOf (bytes_named (tree_file slot) files) (keys_stored files k.index) = subst (λ (kind : IndexKind). IsIndexComplete kind (bytes_named (tree_file slot) files) (keys_stored files k.index)) k.kind whole in
@@ -444,7 +444,7 @@ told_names files catalog slot index s h is name attribute on before after line =
 -- a tree that was built is told by the names that the catalog in memory has
 pub tree_told : (old new : State) (catalog : Loaded) (id slot : ℕ) (zs : List ℤ) → id ≡ slot → slot < 8 → HasSlot old.files catalog slot → IsSoundButTrees old.files
     → (HasSlot old.files catalog id → IsSoundButTrees old.files → AreKeysIn old.files id zs) → SparesButTree old new (tree_file slot) → SparesOtherIndexes old.files new.files slot
-    → (IsComplete old.files slot → ⊥) → IsComplete new.files slot → (before after : List AnyMended)
+    → (HasCompleteIndex old.files slot → ⊥) → HasCompleteIndex new.files slot → (before after : List AnyMended)
     → ((entry : IndexEntry) (schema : Schema) (place : Attribute) → get_or catalog.indexes id None ≡ Some entry → get_or catalog.relations entry.relation None ≡ Some schema → slice_get schema.attributes entry.attribute ≡ Some place
     → after ≡ with_line before (Tree schema.name place.name))
     → ReportsTrees 1 old new before after
@@ -459,15 +459,15 @@ tree_told old new catalog id slot zs same below h s read spares others wrong rig
 
 -- and one that waits is not complete
 pub tree_waits : (old new : State) (catalog : Loaded) (id slot : ℕ) (zs : List ℤ) → id ≡ slot → HasSlot old.files catalog slot → IsSoundButTrees old.files
-    → (HasSlot old.files catalog id → IsSoundButTrees old.files → AreKeysIn old.files id zs) → IsNoTree old.files (tree_file id) zs → IsComplete old.files slot → ⊥
+    → (HasSlot old.files catalog id → IsSoundButTrees old.files → AreKeysIn old.files id zs) → IsOtherTree old.files (tree_file id) zs → HasCompleteIndex old.files slot → ⊥
 tree_waits old new catalog id slot zs same h s read none c =
-    not_complete old.files id zs (read (subst (HasSlot old.files catalog) (sym same) h) s) none (subst (IsComplete old.files) (sym same) c)
+    not_complete old.files id zs (read (subst (HasSlot old.files catalog) (sym same) h) s) none (subst (HasCompleteIndex old.files) (sym same) c)
 
-pub still_waits : (old new : State) (slot : ℕ) → SparesButTree old new (tree_file slot) → bytes_seen (tree_file slot) new.files ≡ bytes_seen (tree_file slot) old.files → (IsComplete old.files slot → ⊥) → IsComplete new.files slot → ⊥
+pub still_waits : (old new : State) (slot : ℕ) → SparesButTree old new (tree_file slot) → bytes_by_name (tree_file slot) new.files ≡ bytes_by_name (tree_file slot) old.files → (HasCompleteIndex old.files slot → ⊥) → HasCompleteIndex new.files slot → ⊥
 still_waits old new slot spares same wrong c = wrong (complete_back old.files new.files slot (λ n differs. spares.spares.files n differs) same c)
 
 -- a file that is there as before, with its bytes
-pub seen_as : (name : List ℕ) (old new : Table) → is_there name new ≡ is_there name old → bytes_named name new ≡ bytes_named name old → bytes_seen name new ≡ bytes_seen name old
+pub seen_as : (name : List ℕ) (old new : Table) → is_there name new ≡ is_there name old → bytes_named name new ≡ bytes_named name old → bytes_by_name name new ≡ bytes_by_name name old
 seen_as name old new there bytes = by_files (file_named name new) (file_named name old) there bytes
   where
     by_files : (o p : Option File) → is_some o ≡ is_some p → bytes_in_file o ≡ bytes_in_file p → option_map (λ (f : File). f.bytes) o ≡ option_map (λ (f : File). f.bytes) p
@@ -481,7 +481,7 @@ seen_none None e = refl
 seen_none (Some f) e = cc
 
 -- not the tree of a file is not that of its name
-pub no_tree_named : (files : Table) (id : ℕ) (name : List ℕ) (zs : List ℤ) → IsNamed files id name → ((k : ℕ) → IsNamed files k name → k ≡ id) → (IsTreeOf (bytes_at files id) zs → ⊥) → IsNoTree files name zs
+pub no_tree_named : (files : Table) (id : ℕ) (name : List ℕ) (zs : List ℤ) → IsNamed files id name → ((k : ℕ) → IsNamed files k name → k ≡ id) → (IsTreeOf (bytes_at files id) zs → ⊥) → IsOtherTree files name zs
 no_tree_named files id name zs named only none tree = none (subst (λ (bytes : List ℕ). IsTreeOf bytes zs) (named_bytes files id name named only) tree)
 
 -- an index that has lost its tree had one
@@ -492,7 +492,7 @@ lost_tree old mid slot below spares lacks =
 -- ---- all but trees, and then these
 
 -- a slot without an index that has a tree is complete
-right_complete : (files : Table) (i : ℕ) → i < 8 → IsSoundButTrees files → IsRightTree (tree_seen files i) → IsComplete files i
+right_complete : (files : Table) (i : ℕ) → i < 8 → IsSoundButTrees files → IsRightTree (tree_seen files i) → HasCompleteIndex files i
 right_complete files i below s right = record {
   keeps = λ index is. s.treeless i index is (λ kind.
       let never : false ≡ true = sym right.0 ∙ ap is_tree (slot_index files i index below s is) ∙ kind_tree index kind in absurd (cc));
@@ -508,7 +508,7 @@ module _ (old mid new : Table) (s : IsSoundButTrees mid) (f : ChangesOnce old mi
     rows = λ k below. inr (g.rows k below);
     trees = λ i below. ⊎_elim
         (λ (stays : tree_seen new i ≡ tree_seen mid i). inr stays)
-        (λ (moved : (IsComplete mid i → ⊥) × IsComplete new i). ⊎_elim
+        (λ (moved : (HasCompleteIndex mid i → ⊥) × HasCompleteIndex new i). ⊎_elim
         (λ (same : tree_seen mid i ≡ tree_seen old i). inl same)
         (λ (right : (IsRightTree (tree_seen old i) → ⊥) × IsRightTree (tree_seen mid i)). absurd (moved.0 (right_complete mid i below s right.1)))
         (f.trees i below))

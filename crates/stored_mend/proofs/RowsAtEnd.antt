@@ -28,7 +28,7 @@ use Rattle.tuple_file.proofs.Drafted.{last_mark}
 use Rattle.tuple_file.proofs.Slots.{slots_of_whole}
 use Rattle.stored_mend.specs.Filled.{row_before}
 use Rattle.stored_mend.specs.Rows.{MayEndAt, whole_length, whole_rows}
-use Rattle.stored_mend.specs.Whole.{all_take, is_in_order, row_read, slot_takes, takes}
+use Rattle.stored_mend.specs.Whole.{all_take, is_in_order, row_read, slot_takes, takes_next}
 use Rattle.stored_mend.proofs.Copies.{last_of_front}
 use Rattle.stored_mend.proofs.FilledRows.{limit_most}
 use Rattle.stored_mend.proofs.PutOver.{length-range}
@@ -99,10 +99,10 @@ all_at test (o ∷ xs) (suc i) x e at = all_at test xs i x (both_parts (test o) 
 
 -- an index of the relation takes what all take
 pub takes_at : (indexes : List (Option Index)) (relation slots : ℕ) (last : Option Row) (row : Row) (i : ℕ) (index : Index) → all_take indexes relation slots last row ≡ true → get_or indexes i None ≡ Some index → index.relation ≡ relation
-    → takes index.kind index.attribute slots last row ≡ true
+    → takes_next index.kind index.attribute slots last row ≡ true
 takes_at indexes relation slots last row i index all at on =
     let here = all_at (slot_takes relation slots last row) indexes i index all at in
-    ap (λ (b : Bool). not b || takes index.kind index.attribute slots last row) (sym (eq_true index.relation relation on)) ∙ here
+    ap (λ (b : Bool). not b || takes_next index.kind index.attribute slots last row) (sym (eq_true index.relation relation on)) ∙ here
 
 not_less : (a b : ℤ) → int_le a b ≡ true → int_lt b a ≡ false
 not_less a b e = grind (arith, ints)
@@ -110,7 +110,7 @@ not_less a b e = grind (arith, ints)
 -- an index that was complete takes one row more: its tree lacks a key then, and any other is complete still
 pub index_filled : (k : ℕ) (index : Index) (tree : List ℕ) (rows : List Row) (row : Row) (last : Option Row) (slots : ℕ) → index.relation ≡ k → slots ≡ length rows
     → ((l : Row) → slice_get rows (length rows - 1) ≡ Some l → last ≡ Some l)
-    → IsIndexComplete index.kind tree (keys index.attribute rows) → takes index.kind index.attribute slots last row ≡ true
+    → IsIndexComplete index.kind tree (keys index.attribute rows) → takes_next index.kind index.attribute slots last row ≡ true
     → IsIndexWhile (AddingKey k) index tree (keys index.attribute (rows ++ row ∷ []))
 index_filled k index tree rows row last slots on count read complete taken = by_kind index.kind refl complete taken
   where
@@ -120,7 +120,7 @@ index_filled k index tree rows row last slots on count read complete taken = by_
     more : length (keys index.attribute (rows ++ row ∷ [])) ≡ length rows + 1
     more = length-map (rows ++ row ∷ []) (λ (r : Row). key_of (slice_get r.tuple index.attribute)) ∙ length-append rows (row ∷ [])
 
-    by_kind : (kind : IndexKind) → index.kind ≡ kind → IsIndexComplete kind tree (keys index.attribute rows) → takes kind index.attribute slots last row ≡ true
+    by_kind : (kind : IndexKind) → index.kind ≡ kind → IsIndexComplete kind tree (keys index.attribute rows) → takes_next kind index.attribute slots last row ≡ true
         → IsIndexWhile (AddingKey k) index tree (keys index.attribute (rows ++ row ∷ []))
     by_kind Inline is c t =
         let order : first_fall (keys index.attribute (rows ++ row ∷ [])) ≡ None =

@@ -13,7 +13,7 @@ use Rattle.space_model.specs.FileNames.{rows_file}
 use Rattle.stored_mend.specs.Filled.{FillsRow, IsFilledUp, part_of_row}
 use Rattle.stored_mend.specs.Rows.{whole_length, whole_rows}
 use Rattle.stored_mend.specs.RowsCut.{FillsInPart, HasPartStill, MayMendRows}
-use Rattle.stored_mend.specs.Whole.{IsFileOf, IsFillable}
+use Rattle.stored_mend.specs.Whole.{IsOnlyFile, IsFillable}
 use Rattle.stored_mend.proofs.FilledFile.{filled_more, filled_others}
 use Rattle.stored_mend.proofs.KeptBase.{cut_same_rows}
 use Rattle.stored_mend.proofs.MendedRows.{is_cut}
@@ -50,7 +50,7 @@ longer_part attributes bytes more up done less =
 -- ---- what becomes of the file
 
 -- no byte has changed
-pub part_still : (relation : ℕ) (attributes : List Attribute) (old new : State) (file : ℕ) → IsFileOf old.files (rows_file relation) file → whole_length attributes (bytes_at old.files file) < length (bytes_at old.files file) → IsTrue old.tells
+pub part_still : (relation : ℕ) (attributes : List Attribute) (old new : State) (file : ℕ) → IsOnlyFile old.files (rows_file relation) file → whole_length attributes (bytes_at old.files file) < length (bytes_at old.files file) → IsTrue old.tells
     → KeepsBytes old new file → HasPartStill relation attributes old new
 part_still relation attributes old new file is part told kept = record {
   file = file;
@@ -60,7 +60,7 @@ part_still relation attributes old new file is part told kept = record {
   others = becomes_spares_others old new file _ (rows_file relation) _ is.named kept;
 }
 
-pub part_kept : (relation : ℕ) (attributes : List Attribute) (old new : State) (file : ℕ) → IsFileOf old.files (rows_file relation) file → whole_length attributes (bytes_at old.files file) < length (bytes_at old.files file)
+pub part_kept : (relation : ℕ) (attributes : List Attribute) (old new : State) (file : ℕ) → IsOnlyFile old.files (rows_file relation) file → whole_length attributes (bytes_at old.files file) < length (bytes_at old.files file)
     → Keeps old new → HasPartStill relation attributes old new
 part_kept relation attributes old new file is part kept = record {
   file = file;
@@ -77,7 +77,7 @@ part_kept relation attributes old new file is part kept = record {
   };
 }
 
-module _ (catalog : Catalog) (relation : ℕ) (attributes : List Attribute) (old after : State) (file : ℕ) (is : IsFileOf old.files (rows_file relation) file) (part : whole_length attributes (bytes_at old.files file) < length (bytes_at old.files file)) (told : IsTrue old.tells) where
+module _ (catalog : Catalog) (relation : ℕ) (attributes : List Attribute) (old after : State) (file : ℕ) (is : IsOnlyFile old.files (rows_file relation) file) (part : whole_length attributes (bytes_at old.files file) < length (bytes_at old.files file)) (told : IsTrue old.tells) where
   -- a front part of the filling, or all of it
   pub fills_may : FillsInPart catalog relation attributes old after file → MayMendRows catalog relation attributes old after
   fills_may f =

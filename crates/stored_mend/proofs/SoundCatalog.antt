@@ -19,11 +19,11 @@ use Rattle.stored.specs.Mended.{has_time, mended_catalog, mended_version, standi
 use Rattle.stored.proofs.FilesOf.{IsNumbered, Unbroken, by_kind, first_false, unbroken}
 use Rattle.stored.proofs.HasFiles.{formed, no_stranger}
 use Rattle.stored.proofs.MendedBase.{slots_same, whole_sized}
-use Rattle.stored.proofs.MendedSound.{time_there}
+use Rattle.stored.proofs.MendedSound.{any_slot, time_there}
 use Rattle.stored.proofs.NamesStay.{there_stays}
 use Rattle.stored.proofs.SoundSlots.{IsBelow, slot_below, sound_schema, sound_slot, unbroken_slots}
 use Rattle.stored_mend.specs.Rows.{ChangesOne}
-use Rattle.stored_mend.specs.Whole.{IsFileOf}
+use Rattle.stored_mend.specs.Whole.{IsOnlyFile}
 use Rattle.stored_mend.proofs.KeptBase.{bytes_stay}
 use Rattle.stored_mend.proofs.OneFile.{catalog_no_rows}
 
@@ -37,17 +37,6 @@ form_size bytes e = by_tests (length bytes == 0) (length bytes == 1472) (length 
     by_tests false true c d e f g h = inr (inl (true_eq (length bytes) 1472 f))
     by_tests false false true d e f g h = inr (inr (true_eq (length bytes) 1480 g))
     by_tests false false false d e f g h = cc
-
-any_slot : (test : Option Schema → Bool) (slots : List (Option Schema)) → list_any test slots ≡ true → test None ≡ false → (k : ℕ) × (x : Schema) × (get_or slots k None ≡ Some x) × (test (Some x) ≡ true)
-any_slot test [] e none = cc
-any_slot test (None ∷ slots) e none = let r = any_slot test slots (rw none at e) none in (suc r.0, r.1, r.2, r.3)
-any_slot test (Some x ∷ slots) e none = by_test (test (Some x)) refl e (λ h. any_slot test slots h none)
-  where
-    by_test : (b : Bool) → test (Some x) ≡ b → (b || list_any test slots) ≡ true
-        → (list_any test slots ≡ true → (k : ℕ) × (y : Schema) × (get_or slots k None ≡ Some y) × (test (Some y) ≡ true))
-        → (k : ℕ) × (y : Schema) × (get_or (Some x ∷ slots) k None ≡ Some y) × (test (Some y) ≡ true)
-    by_test true t h rest = (0, x, refl, t)
-    by_test false t h rest = let r = rest h in (suc r.0, r.1, r.2, r.3)
 
 module _ (files : Table) (e : first_broken files ≡ None) where
   abbrev bytes : List ℕ
@@ -96,7 +85,7 @@ module _ (files : Table) (e : first_broken files ≡ None) where
       by_test false o t = t
 
   -- the file of rows doubles
-  pub rows_double : (k file : ℕ) → IsFileOf files (rows_file k) file → (file_at files file).kind ≡ Doubling
+  pub rows_double : (k file : ℕ) → IsOnlyFile files (rows_file k) file → (file_at files file).kind ≡ Doubling
   rows_double k file is =
       let f : File = file_at files file in
       let at : place files file ≡ Some f = place_live files file (named_live files file (rows_file k) is.named) in

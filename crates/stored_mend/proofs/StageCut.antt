@@ -11,6 +11,7 @@ use Rattle.db_model.specs.declared.schemas.Schema.{Schema}
 use Rattle.db_model.specs.Catalog.{relation_at}
 use Rattle.padded.proofs.Facts.{none_there}
 use Rattle.space_model.specs.FileNames.{catalog_file, is_there, rows_file, tree_file}
+use Rattle.stored.proofs.SoundSlots.{nothing}
 use Rattle.stored.specs.CutTables.{IsBegun, IsCutTable, IsHalfDone, index_read, relation}
 use Rattle.stored.specs.Mended.{mended_catalog}
 use Rattle.stored.specs.declared.half.Half.{Half}
@@ -18,7 +19,7 @@ use Rattle.stored.specs.declared.half.Half.TheVariants.{Nothing, Emptying, Growi
 use Rattle.stored.proofs.FilesOf.{IsNumbered, Unbroken, by_kind, first_false, rows_wanted, tree_wanted, unbroken}
 use Rattle.stored.proofs.HasFiles.{formed, no_stranger}
 use Rattle.stored.proofs.SoundCut.{named_there}
-use Rattle.stored_mend.specs.Stages.{HasWholeRows, IsCatalogSound}
+use Rattle.stored_mend.specs.Stages.{HasWholeRelations, IsCatalogSound}
 use Rattle.stored_mend.proofs.SoundCatalog.{form_size, version_read}
 use Rattle.stored_mend.proofs.WholeSlots.{has_mark, index_fine, index_is, named_alone, no_index, relation_is, same_used, slot_is}
 
@@ -55,10 +56,6 @@ module _ (files : Table) where
   plainly (LoneTree j) s = nothing_left (LoneTree j) (λ k e. cc) (λ k e. cc) s
   plainly (AddingRow j) s = (AddingRow j, record { emptying = λ k e. cc; growing = λ k e. cc }, s)
   plainly (AddingKey j) s = (AddingKey j, record { emptying = λ k e. cc; growing = λ k e. cc }, s)
-
-nothing : (bytes : List ℕ) → length bytes ≡ 0 → bytes ≡ []
-nothing [] e = refl
-nothing (b ∷ bytes) e = absurd (omega (arith, e))
 
 no_relations : map (relation_at []) (range_with_len 0 8) ≡ replicate 8 None
 no_relations = refl
@@ -152,5 +149,5 @@ module _ (files : Table) (half : Half) (plain : IsPlain half) (s : IsCatalogSoun
 pub stage_cut : (files : Table) (half : Half) → IsCatalogSound files half → IsCutTable files
 stage_cut files half s = let p = plainly files half s in plain_cut files p.0 p.1 p.2
 
-pub whole_cut : (files : Table) (half : Half) → HasWholeRows files half → IsCutTable files
+pub whole_cut : (files : Table) (half : Half) → HasWholeRelations files half → IsCutTable files
 whole_cut files half w = stage_cut files half w.stage

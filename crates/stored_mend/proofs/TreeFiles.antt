@@ -14,6 +14,7 @@ use Rattle.afl_base.specs.FileErrors.{OnSpace, UnlessFailed}
 use Rattle.afl_base.specs.declared.kind.FileError.{FileError}
 use Rattle.afl_base.specs.declared.kind.FileError.TheVariants.{Failed, Space}
 use Rattle.afl_base.specs.declared.kind.Kind.TheVariants.{Doubling}
+use Rattle.catalog.proofs.Breaks.{bytes_of_place}
 use Rattle.catalog.proofs.Named.{found_there, named_found, named_none}
 use Rattle.index_tree.specs.Trees.{IsTreeOf}
 use Rattle.space_model.specs.FileNames.{bytes_in_file, bytes_named, file_named, is_there, rows_file, tree_file}
@@ -35,10 +36,6 @@ known_but old new id name others is doubles k f there = ⊎_elim
     inr (record { named = ap (λ (x : File). x.name) (sym here) ∙ is; doubles = ap (λ (x : File). x.kind) (sym here) ∙ doubles }))
     (λ (other : k ≢ id). inl (sym (others k other) ∙ there))
     (cases_eq k id)
-
-bytes_of_place : (o : Option File) → bytes_in_file o ≡ (unwrap_or o no_file).bytes
-bytes_of_place None = refl
-bytes_of_place (Some f) = refl
 
 -- the bytes of the one file of a name
 pub named_bytes : (files : Table) (id : ℕ) (name : List ℕ) → IsNamed files id name → ((k : ℕ) → IsNamed files k name → k ≡ id) → bytes_named name files ≡ bytes_at files id

@@ -27,7 +27,7 @@ use Rattle.stored.proofs.FilesOf.{rows_wanted, tree_wanted}
 use Rattle.stored.proofs.MendedBase.{index_mended, index_mended_at, index_there, index_waits, indexes_mended, whole_long}
 use Rattle.stored.proofs.MendedSound.{mended_of_unbroken, own_catalog}
 use Rattle.stored.proofs.SoundSlots.{slot_below}
-use Rattle.stored_mend.specs.Complete.{AreComplete, AreKeysIn, CompletesFirst, CompletesSlot, HasSlot, IsComplete, IsSoundButTrees, SettlesIndex, SettlesSlot}
+use Rattle.stored_mend.specs.Complete.{HasCompleteIndexes, AreKeysIn, CompletesFirst, CompletesSlot, HasSlot, HasCompleteIndex, IsSoundButTrees, SettlesIndex, SettlesSlot}
 use Rattle.stored_mend.specs.CutTrees.{AreCompleteBut, AreTreesWhile, CompletesBut, IndexWaits, KeepsTrees, MayMakeRoom, MayRemoveTree, MayReplaceTree}
 use Rattle.stored_mend.specs.Listed.{LacksTree}
 use Rattle.stored_mend.specs.Trees.{BuildsTree, ChangesAtMost, LosesTrees, SparesButTree}
@@ -46,11 +46,11 @@ use Rattle.stored_mend.proofs.TreesLost.{kept_by, lost, loses_same}
 -- ---- those for which there is room
 
 -- a slot whose tree is put right, or waits
-pub while_next : (half : Half) (a b : State) (i : ℕ) (need : Option ℕ) → i < 8 → ChangesAtMost a b (tree_file i) → AreTreesWhile a.files half → IfNone need (IsComplete b.files i) → IfSome need (λ n. IndexWaits a.files b.files i) → AreTreesWhile b.files half
+pub while_next : (half : Half) (a b : State) (i : ℕ) (need : Option ℕ) → i < 8 → ChangesAtMost a b (tree_file i) → AreTreesWhile a.files half → IfNone need (HasCompleteIndex b.files i) → IfSome need (λ n. IndexWaits a.files b.files i) → AreTreesWhile b.files half
 while_next half a b i None below c t complete waits = while_complete half a b i below c t complete
 while_next half a b i (Some n) below c t complete waits = while_same half a b i below c t waits.same
 
-none_complete : (a b : State) (catalog : Catalog) (i : ℕ) (need : Option ℕ) → IsTrue a.tells → HasSlot a.files catalog i → IsSoundButTrees a.files → IfNone need (CompletesSlot a b catalog i) → IfNone need (IsComplete b.files i)
+none_complete : (a b : State) (catalog : Catalog) (i : ℕ) (need : Option ℕ) → IsTrue a.tells → HasSlot a.files catalog i → IsSoundButTrees a.files → IfNone need (CompletesSlot a b catalog i) → IfNone need (HasCompleteIndex b.files i)
 none_complete a b catalog i None told h s c = c.complete told h s
 none_complete a b catalog i (Some n) told h s c = tt
 
@@ -69,7 +69,7 @@ module _ (s a b : State) (catalog : Catalog) (i : ℕ) (need : Option ℕ) (belo
   }
 
   -- those before are as complete as they were
-  but_before : (w : ℕ) → CompletesBut s a catalog i w → IsTrue s.tells → AreComplete s.files catalog 0 → (j : ℕ) → j < i → j ≢ w → IsComplete b.files j
+  but_before : (w : ℕ) → CompletesBut s a catalog i w → IsTrue s.tells → HasCompleteIndexes s.files catalog 0 → (j : ℕ) → j < i → j ≢ w → HasCompleteIndex b.files j
   but_before w f told start j less other =
       let apart : j ≢ i = λ e. omega (arith, less, e) in
       (spared_by a b i below c (begun.complete told start).sound).complete j apart (f.complete told start j less other)
@@ -85,7 +85,7 @@ module _ (s a b : State) (catalog : Catalog) (i : ℕ) (need : Option ℕ) (belo
               (λ (same : j ≡ i).
               let now = begun.complete told start in
               let complete = none_complete a b catalog i need (tells ∙ told) (now.rest i (omega arith)) now.sound here in
-              subst (IsComplete b.files) (sym same) (subst (λ (o : Option ℕ). IfNone o (IsComplete b.files i)) (none zero_more) complete))
+              subst (HasCompleteIndex b.files) (sym same) (subst (λ (o : Option ℕ). IfNone o (HasCompleteIndex b.files i)) (none zero_more) complete))
               (λ (apart : j ≢ i). but_before f.0 f.1 told start j (omega (arith, less, apart)) other)
               (cases_eq j i);
         },
@@ -111,10 +111,10 @@ all_but a b catalog n w low high f = let e : n ≡ 8 = omega (arith, low, high) 
 past_slots : (f : ℕ → Option Index) (j : ℕ) → 8 ≤ j → get_or (map f (range_with_len 0 8)) j None ≡ None
 past_slots f j more = let size = length-map-range_with_len f 0 8 in get_or_past (map f (range_with_len 0 8)) j None (omega (arith, size, more))
 
-past_complete : (files : Table) (j : ℕ) → 8 ≤ j → IsComplete files j
+past_complete : (files : Table) (j : ℕ) → 8 ≤ j → HasCompleteIndex files j
 past_complete files j more = record { keeps = λ index is. let at = slot_below (index_at (catalog_bytes_in files)) 8 j index is in let less = at.below in absurd (omega (arith, more, less)) }
 
-pub complete_but : (a b : State) (catalog : Catalog) (w : ℕ) → CompletesBut a b catalog 8 w → IsTrue a.tells → AreComplete a.files catalog 0 → AreCompleteBut b.files w
+pub complete_but : (a b : State) (catalog : Catalog) (w : ℕ) → CompletesBut a b catalog 8 w → IsTrue a.tells → HasCompleteIndexes a.files catalog 0 → AreCompleteBut b.files w
 complete_but a b catalog w f told start j other = ⊎_elim (λ (less : j < 8). f.complete told start j less other) (λ (more : 8 ≤ j). past_complete b.files j more) (cases_lt j 8)
 
 -- ---- one that waits alone
@@ -137,14 +137,14 @@ but_settled s a b catalog i w tells first settles f = record {
       let now = first.complete told start in
       let done = settles.settles (tells ∙ told) (now.rest i (omega arith)) now.sound in
       ⊎_elim
-      (λ (same : j ≡ i). subst (IsComplete b.files) (sym same) done.here)
+      (λ (same : j ≡ i). subst (HasCompleteIndex b.files) (sym same) done.here)
       (λ (apart : j ≢ i). done.spares.complete j apart (f.complete told start j less other))
       (cases_eq j i);
 }
 
 -- room may be made for a tree behind others
 pub may_make_room : (s a : State) (catalog : Catalog) (half : Half) (i waiting : ℕ) → CompletesFirst s a catalog i → KeepsTrees s a catalog → (waiting ≡ 1 → (w : ℕ) × CompletesBut s a catalog 8 w)
-    → IsTrue s.tells → AreComplete s.files catalog 0 → AreTreesWhile s.files half → MayMakeRoom a.files catalog half i (waiting == 1)
+    → IsTrue s.tells → HasCompleteIndexes s.files catalog 0 → AreTreesWhile s.files half → MayMakeRoom a.files catalog half i (waiting == 1)
 may_make_room s a catalog half i waiting first keeps one told start t = record {
   here = (first.complete told start).rest i (omega arith);
   trees = keeps.trees told half start t;
@@ -161,7 +161,7 @@ settled_while half a b i s others places = record {
   where
     complete : (j : ℕ) (index : Index) → get_or (catalog_in b).indexes j None ≡ Some index → IsIndexComplete index.kind (bytes_named (tree_file j) b) (keys_stored b index)
     complete j index is = ⊎_elim
-        (λ (same : j ≡ i). (subst (IsComplete b) (sym same) s.here).keeps index is)
+        (λ (same : j ≡ i). (subst (HasCompleteIndex b) (sym same) s.here).keeps index is)
         (λ (other : j ≢ i). (s.spares.complete j other (others j other)).keeps index is)
         (cases_eq j i)
 

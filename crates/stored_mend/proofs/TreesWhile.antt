@@ -23,9 +23,9 @@ use Rattle.stored.specs.declared.half.Half.{Half}
 use Rattle.stored.proofs.FilesOf.{first_false, in_table, unbroken}
 use Rattle.stored.proofs.MendedSound.{mended_of_unbroken, own_catalog}
 use Rattle.stored.proofs.SoundSlots.{slot_below}
-use Rattle.stored_mend.specs.Complete.{AreKeysIn, IsComplete}
+use Rattle.stored_mend.specs.Complete.{AreKeysIn, HasCompleteIndex}
 use Rattle.stored_mend.specs.CutTrees.{AreTreesWhile, IndexWaits, MayMendTree, StaysWithout}
-use Rattle.stored_mend.specs.Stages.{HasWholeRows}
+use Rattle.stored_mend.specs.Stages.{HasWholeRelations}
 use Rattle.stored_mend.specs.Trees.{ChangesAtMost}
 use Rattle.stored_mend.proofs.Completing.{index_same, known_at, same_rows, spared_by, tree_same}
 use Rattle.stored_mend.proofs.CutCalls.{IsLeft, left_after}
@@ -90,7 +90,7 @@ module _ (half : Half) (a b : State) (i : ℕ) (below : i < 8) (c : ChangesAtMos
   while_same same = while_by (same_here same)
 
   -- the index is complete
-  pub while_complete : IsComplete b.files i → AreTreesWhile b.files half
+  pub while_complete : HasCompleteIndex b.files i → AreTreesWhile b.files half
   while_complete complete = while_by (λ index is. inl (complete.keeps index (index_same a b i c.spares i ∙ is)))
 
 -- a cut leaves all trees in this form
@@ -152,7 +152,7 @@ no_strangers files sound places id = by_place (place files id) refl
     by_place (Some f) e = first_false (is_stranger files) 32 id (in_table files places id f e) (unbroken files sound).strangers
 
 -- files with whole rows
-pub trees_begun : (files : Table) (half : Half) → HasWholeRows files half → AreTreesWhile files half
+pub trees_begun : (files : Table) (half : Half) → HasWholeRelations files half → AreTreesWhile files half
 trees_begun files half w =
     let sound = w.stage.catalog in
     record {

@@ -28,8 +28,8 @@ use Rattle.stored.proofs.MendedBase.{relation_mended_at, relation_read}
 use Rattle.tuple_file.specs.Tuples.{AreRows}
 use Rattle.stored_mend.specs.Filled.{IsFilledIn, IsFilledUp, part_of_row, row_before}
 use Rattle.stored_mend.specs.Rows.{ChangesOne, whole_length, whole_rows}
-use Rattle.stored_mend.specs.Stages.{HasWholeRows, IsCatalogSound}
-use Rattle.stored_mend.specs.Whole.{HasRowsBelow, IsFileOf, IsFillable, MakesWhole, MendsRows, row_read, takes}
+use Rattle.stored_mend.specs.Stages.{HasWholeRelations, IsCatalogSound}
+use Rattle.stored_mend.specs.Whole.{HasRowsBelow, IsOnlyFile, IsFillable, MakesWhole, MendsRows, row_read, takes_next}
 use Rattle.stored_mend.proofs.FilledRows.{filled_are_rows, filled_rows, has_attribute}
 use Rattle.stored_mend.proofs.KeptBase.{bytes_stay, whole_rows_same, whole_size}
 use Rattle.stored_mend.proofs.OneFile.{same_rows_slot, tree_no_rows}
@@ -126,17 +126,17 @@ module _ (old new : State) (k : ℕ) (schema : Schema) (half after : Half) (c : 
 -- ---- what a repair makes of one relation
 
 -- the bytes of its file
-pub bytes_before : (old : State) (k file : ℕ) → IsFileOf old.files (rows_file k) file → bytes_named (rows_file k) old.files ≡ bytes_at old.files file
+pub bytes_before : (old : State) (k file : ℕ) → IsOnlyFile old.files (rows_file k) file → bytes_named (rows_file k) old.files ≡ bytes_at old.files file
 bytes_before old k file at = ap bytes_in_file (named_found old.files file (rows_file k) at.named at.only ∙ place_live old.files file (named_live old.files file (rows_file k) at.named))
 
-pub bytes_now : (old new : State) (k : ℕ) → ChangesOne old new (rows_file k) → (file : ℕ) → IsFileOf old.files (rows_file k) file → bytes_named (rows_file k) new.files ≡ bytes_at new.files file
+pub bytes_now : (old new : State) (k : ℕ) → ChangesOne old new (rows_file k) → (file : ℕ) → IsOnlyFile old.files (rows_file k) file → bytes_named (rows_file k) new.files ≡ bytes_at new.files file
 bytes_now old new k c file at =
     let named : IsNamed new.files file (rows_file k) = c.named file ∙ at.named in
     ap bytes_in_file (named_found new.files file (rows_file k) named (λ j h. at.only j (sym (c.named j) ∙ h)) ∙ place_live new.files file (named_live new.files file (rows_file k) named))
 
 -- where a part of a row stands at its end, a row was being added
 pub part_adding : (old : State) (k : ℕ) (schema : Schema) (half : Half) → relation old.files k ≡ Some schema → IsCatalogSound old.files half
-    → (file : ℕ) → IsFileOf old.files (rows_file k) file → whole_length schema.attributes (bytes_at old.files file) < length (bytes_at old.files file)
+    → (file : ℕ) → IsOnlyFile old.files (rows_file k) file → whole_length schema.attributes (bytes_at old.files file) < length (bytes_at old.files file)
     → (half ≡ AddingRow k) × AreRows (mended_catalog old.files).version schema.attributes (whole_rows schema.attributes (bytes_at old.files file))
 part_adding old k schema half is stage file at part = by_rows (stage.rows k schema is)
   where
@@ -181,7 +181,7 @@ module _ (catalog : Catalog) (old new : State) (k : ℕ) (schema : Schema) (half
       whole (inl are) = are
       whole (inr part) = all_whole (mended_catalog old.files).version schema.attributes (bytes_named (rows_file k) old.files) part.1 long
 
-  module _ (file : ℕ) (at : IsFileOf old.files (rows_file k) file) where
+  module _ (file : ℕ) (at : IsOnlyFile old.files (rows_file k) file) where
     before : bytes_named (rows_file k) old.files ≡ bytes_at old.files file
     before = bytes_before old k file at
 
@@ -204,7 +204,7 @@ module _ (catalog : Catalog) (old new : State) (k : ℕ) (schema : Schema) (half
           (λ i index e on complete.
           let there : get_or catalog.indexes i None ≡ Some index = ap (λ (cat : Catalog). get_or cat.indexes i None) listed ∙ index_read_at old.files below.stage.catalog i index e in
           let taken = takes_at catalog.indexes k (slots_in_bytes attributes (bytes_at old.files file)) (row_read attributes (row_before attributes (bytes_at old.files file))) (row_of attributes f.filling.row) i index f.filling.taken.taken there on in
-          let takes_row = subst (λ (r : Row). takes index.kind index.attribute (slots_in_bytes attributes (bytes_at old.files file)) (row_read attributes (row_before attributes (bytes_at old.files file))) r ≡ true) read taken in
+          let takes_row = subst (λ (r : Row). takes_next index.kind index.attribute (slots_in_bytes attributes (bytes_at old.files file)) (row_read attributes (row_before attributes (bytes_at old.files file))) r ≡ true) read taken in
           subst (λ (rs : List Row). IsIndexWhile (AddingKey k) index (bytes_named (tree_file i) old.files) (keys index.attribute rs)) (sym all)
           (index_filled k index (bytes_named (tree_file i) old.files) old_rows row (row_read attributes (row_before attributes (bytes_at old.files file))) (slots_in_bytes attributes (bytes_at old.files file)) on
           (sym (length-map-range_with_len (row_at attributes (bytes_at old.files file)) 0 (slots_in_bytes attributes (bytes_at old.files file))))
@@ -243,7 +243,7 @@ none_below files k half none below = record {
       (cases_eq j k);
 }
 
-all_below : (files : Table) (n : ℕ) (half : Half) → 8 ≤ n → HasRowsBelow files n half → HasWholeRows files half
+all_below : (files : Table) (n : ℕ) (half : Half) → 8 ≤ n → HasRowsBelow files n half → HasWholeRelations files half
 all_below files n half all below = record {
   stage = below.stage;
   rows = λ j s e. let at = slot_read files below.stage.catalog j s e in below.rows j s (omega (arith, all, at.below)) e;
@@ -287,7 +287,7 @@ makes_then catalog a b c l m n told_then same f g = λ told listed half below.
 
 -- all slots
 pub makes_all : (catalog : Catalog) (old new : State) (n : ℕ) → 8 ≤ n → MakesWhole catalog 0 n old new → IsTrue old.tells → catalog ≡ catalog_in old.files → (half : Half) → IsCatalogSound old.files half
-    → (after : Half) × HasWholeRows new.files after
+    → (after : Half) × HasWholeRelations new.files after
 unfolding MakesWhole
 makes_all catalog old new n all f told listed half stage =
     let r = f told listed half (record { stage = stage; rows = λ j s less e. absurd (omega (arith, less)) }) in

@@ -1,5 +1,5 @@
 -- What a catalog of all slots that breaks no rule has in them, whatever is half done beside it.
-use Rattle.std.proofs.Common.{◌≡◌, inl, ℕ, ◌+◌, ◌*◌, ◌<◌, ◌≤◌, Bool, true, false, not, List, [], length, map, replicate, take, get_or, Option, Some, None, refl, ap, sym, subst, ◌∙◌, arith}
+use Rattle.std.proofs.Common.{◌≡◌, inl, ℕ, ◌+◌, ◌*◌, ◌<◌, ◌≤◌, Bool, true, false, not, List, [], length, map, replicate, take, get_or, Option, None, refl, ap, sym, subst, ◌∙◌, arith}
 use Rattle.std.specs.Prelude.{slice_range}
 use Rattle.std.specs.List.{range_with_len}
 use Rattle.std.proofs.lemmas.List.FromFn.{get_or-map-range_with_len}
@@ -14,16 +14,13 @@ use Rattle.stored.specs.declared.half.Half.{Half}
 use Rattle.stored.proofs.HasFiles.{formed}
 use Rattle.stored.proofs.MendedBase.{whole_long}
 use Rattle.stored.proofs.SoundSlots.{IsUnbroken, kept, unbroken_slots}
+use Rattle.stored_mend.proofs.HalfSettled.{written_slot as whole_slot}
 
 pub same_used : (there used : Bool) → differ there used ≡ false → there ≡ used
 same_used true true e = refl
 same_used true false e = cc
 same_used false true e = cc
 same_used false false e = refl
-
-whole_slot : (half : Half) (version k : ℕ) (slot : List ℕ) (o : Option Schema) → is_relation_slot version slot o ≡ true → IsSlot half version k slot o
-whole_slot half version k slot None e = inl e
-whole_slot half version k slot (Some schema) e = inl e
 
 no_indexes : map (index_at []) (range_with_len 0 8) ≡ replicate 8 None
 no_indexes = refl

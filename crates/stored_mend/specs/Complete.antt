@@ -24,7 +24,7 @@ pub record HasSlot (files : Table) (catalog : Catalog) (slot : ℕ) : Type 0 whe
   pub index : get_or (indexes_in catalog.indexes) slot None ≡ get_or (catalog_in files).indexes slot None
 
 -- the index in a slot is complete, or there is none
-pub record IsComplete (files : Table) (slot : ℕ) : Type 0 where
+pub record HasCompleteIndex (files : Table) (slot : ℕ) : Type 0 where
   pub keeps : KeepsIndex files slot
 
 -- these are the keys of the index in a slot, which has a tree
@@ -35,9 +35,9 @@ pub record AreKeysIn (files : Table) (slot : ℕ) (zs : List ℤ) : Type 0 where
   pub same : zs ≡ keys_stored files index
 
 -- the indexes of the first slots are complete, and a catalog in memory has those of all others
-pub record AreComplete (files : Table) (catalog : Catalog) (slot : ℕ) : Type 0 where
+pub record HasCompleteIndexes (files : Table) (catalog : Catalog) (slot : ℕ) : Type 0 where
   pub sound : IsSoundButTrees files
-  pub first : (j : ℕ) → j < slot → IsComplete files j
+  pub first : (j : ℕ) → j < slot → HasCompleteIndex files j
   pub rest : (j : ℕ) → slot ≤ j → HasSlot files catalog j
 
 -- the index of a slot is gone from the catalog, whose version and other slots are as before
@@ -52,18 +52,18 @@ pub record SparesOtherIndexes (old new : Table) (slot : ℕ) : Type 0 where
   pub sound : IsSoundButTrees new
   pub relations : (catalog_in new).relations ≡ (catalog_in old).relations
   pub indexes : (j : ℕ) → j ≢ slot → get_or (catalog_in new).indexes j None ≡ get_or (catalog_in old).indexes j None
-  pub complete : (j : ℕ) → j ≢ slot → IsComplete old j → IsComplete new j
+  pub complete : (j : ℕ) → j ≢ slot → HasCompleteIndex old j → HasCompleteIndex new j
 
 -- and the index of the slot is complete, or gone
 pub record SettlesIndex (old new : Table) (slot : ℕ) : Type 0 where
   pub spares : SparesOtherIndexes old new slot
-  pub here : IsComplete new slot
+  pub here : HasCompleteIndex new slot
 
 -- ---- steps, where bytes are told
 
 -- where a catalog in memory has a slot, and all but trees is sound, the index of the slot is complete then
 pub record CompletesSlot (old new : State) (catalog : Catalog) (slot : ℕ) : Type 0 where
-  pub complete : IsTrue old.tells → HasSlot old.files catalog slot → IsSoundButTrees old.files → IsComplete new.files slot
+  pub complete : IsTrue old.tells → HasSlot old.files catalog slot → IsSoundButTrees old.files → HasCompleteIndex new.files slot
 
 -- or it is gone from the catalog
 pub record SettlesSlot (old new : State) (catalog : Catalog) (slot : ℕ) : Type 0 where
@@ -76,4 +76,4 @@ pub record LosesTree (old new : State) (catalog : Catalog) (slot : ℕ) : Type 0
 
 -- the indexes of the first slots are complete
 pub record CompletesFirst (old new : State) (catalog : Catalog) (slot : ℕ) : Type 0 where
-  pub complete : IsTrue old.tells → AreComplete old.files catalog 0 → AreComplete new.files catalog slot
+  pub complete : IsTrue old.tells → HasCompleteIndexes old.files catalog 0 → HasCompleteIndexes new.files catalog slot

@@ -11,7 +11,7 @@ use Rattle.space_model.specs.FileNames.{bytes_named, tree_file}
 use Rattle.stored.specs.CutTables.{IsIndexWhile}
 use Rattle.stored.specs.Sound.{keys_stored}
 use Rattle.stored.specs.declared.half.Half.{Half}
-use Rattle.stored_mend.specs.Complete.{AreComplete, HasSlot, IsComplete, IsSoundButTrees}
+use Rattle.stored_mend.specs.Complete.{HasCompleteIndexes, HasSlot, HasCompleteIndex, IsSoundButTrees}
 use Rattle.stored_mend.specs.Trees.{BuildsTree, ChangesAtMost, SparesButTree}
 
 -- ---- the file of one tree
@@ -53,12 +53,12 @@ pub record AreTreesWhile (files : Table) (half : Half) : Type 0 where
 
 -- the index in a slot is not complete, and its tree stays as it is
 pub record IndexWaits (old new : Table) (slot : ℕ) : Type 0 where
-  pub incomplete : IsComplete old slot → ⊥
+  pub incomplete : HasCompleteIndex old slot → ⊥
   pub same : bytes_named (tree_file slot) new ≡ bytes_named (tree_file slot) old
 
 -- all indexes but that of a slot are complete
 abbrev pub AreCompleteBut : Table → ℕ → Type 0
-AreCompleteBut files slot = (j : ℕ) → j ≢ slot → IsComplete files j
+AreCompleteBut files slot = (j : ℕ) → j ≢ slot → HasCompleteIndex files j
 
 -- a catalog in memory has the slot, and all trees but its own are as they should be: it alone may be removed
 pub record MayRemoveTree (files : Table) (catalog : Catalog) (half : Half) (slot : ℕ) : Type 0 where
@@ -76,8 +76,8 @@ pub record MayMakeRoom (files : Table) (catalog : Catalog) (half : Half) (slot :
 
 -- trees stay as complete as they were while a key was being put into them, or become so
 pub record KeepsTrees (old new : State) (catalog : Catalog) : Type 0 where
-  pub trees : IsTrue old.tells → (half : Half) → AreComplete old.files catalog 0 → AreTreesWhile old.files half → AreTreesWhile new.files half
+  pub trees : IsTrue old.tells → (half : Half) → HasCompleteIndexes old.files catalog 0 → AreTreesWhile old.files half → AreTreesWhile new.files half
 
 -- the indexes of the first slots are complete, but for one
 pub record CompletesBut (old new : State) (catalog : Catalog) (upto waits : ℕ) : Type 0 where
-  pub complete : IsTrue old.tells → AreComplete old.files catalog 0 → (j : ℕ) → j < upto → j ≢ waits → IsComplete new.files j
+  pub complete : IsTrue old.tells → HasCompleteIndexes old.files catalog 0 → (j : ℕ) → j < upto → j ≢ waits → HasCompleteIndex new.files j

@@ -43,21 +43,21 @@ most_number (Str n) = pos 0
 -- ---- fields
 
 -- the number in the field at a place
-abbrev pub number_in : Domain → List ℕ → ℕ → ℤ
-number_in Int bytes at = cast_signed w16 (u16_at bytes at)
-number_in Long bytes at = i32_at bytes at
-number_in Time bytes at = i64_at bytes at
-number_in (Str n) bytes at = pos 0
+abbrev pub field_number : Domain → List ℕ → ℕ → ℤ
+field_number Int bytes at = cast_signed w16 (u16_at bytes at)
+field_number Long bytes at = i32_at bytes at
+field_number Time bytes at = i64_at bytes at
+field_number (Str n) bytes at = pos 0
 
 -- that of the row before, which has no bytes where there is none
 abbrev pub number_before : Domain → List ℕ → ℕ → ℤ
 number_before domain [] at = least_number domain
-number_before domain (b ∷ bytes) at = number_in domain (b ∷ bytes) at
+number_before domain (b ∷ bytes) at = field_number domain (b ∷ bytes) at
 
 -- a number field of which so many bytes are there, and zeros behind them, gets the other bytes of the least number of its
 -- domain that begins with these and is not below another; where there is none it stays
 abbrev pub FillsNumber : Domain → ℤ → (there at : ℕ) → (old new : List ℕ) → Type 0
-FillsNumber domain before there at old new = let base = 256 ^ there in let low = cast_unsigned w64 (number_in domain old at) in
+FillsNumber domain before there at old new = let base = 256 ^ there in let low = cast_unsigned w64 (field_number domain old at) in
     ((z : ℤ) × IsLeast before base low z × (z ≤ℤ most_number domain) × (new ≡ put_at old (at + there) (slice_range (i64_bytes z) there (width domain))))
     ⊎ (((z : ℤ) → before ≤ℤ z → z ≤ℤ most_number domain → IsAlike base low z → ⊥) × (new ≡ old))
 

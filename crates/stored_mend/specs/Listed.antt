@@ -81,20 +81,20 @@ abbrev pub trees_below : ℕ → Reach
 trees_below slot = record { relations = 8; indexes = 8; rows = 8; trees = slot }
 
 -- what is half done lies in none of them
-abbrev pub IsAhead : Reach → Half → Type 0
-IsAhead reach (Emptying slot) = reach.relations ≤ slot
-IsAhead reach (Growing slot) = reach.relations ≤ slot
-IsAhead reach (Treeless slot) = reach.indexes ≤ slot
-IsAhead reach (LoneRows slot) = reach.rows ≤ slot
-IsAhead reach (LoneTree slot) = reach.trees ≤ slot
-IsAhead reach Nothing = ⊤
-IsAhead reach (AddingRow slot) = ⊤
-IsAhead reach (AddingKey slot) = ⊤
+abbrev pub IsBeyond : Reach → Half → Type 0
+IsBeyond reach (Emptying slot) = reach.relations ≤ slot
+IsBeyond reach (Growing slot) = reach.relations ≤ slot
+IsBeyond reach (Treeless slot) = reach.indexes ≤ slot
+IsBeyond reach (LoneRows slot) = reach.rows ≤ slot
+IsBeyond reach (LoneTree slot) = reach.trees ≤ slot
+IsBeyond reach Nothing = ⊤
+IsBeyond reach (AddingRow slot) = ⊤
+IsBeyond reach (AddingKey slot) = ⊤
 
 -- one thing at most is half done, and it lies ahead
 pub record IsDoneTo (reach : Reach) (files : Table) (half : Half) : Type 0 where
   pub done : IsHalfDone files half
-  pub ahead : IsAhead reach half
+  pub ahead : IsBeyond reach half
   pub mark : IsMarkedTo files reach.relations
 
 -- what a cut leaves, repaired so far

@@ -10,7 +10,7 @@ use Rattle.index_tree.specs.Trees.{IsTreeOf}
 use Rattle.space_model.specs.FileNames.{bytes_named, catalog_file, file_named, rows_file, size_in, tree_file}
 use Rattle.stored.specs.CutTables.{slot_bytes}
 use Rattle.stored.specs.Mended.{whole_catalog}
-use Rattle.stored_mend.specs.Complete.{IsComplete, IsSoundButTrees}
+use Rattle.stored_mend.specs.Complete.{HasCompleteIndex, IsSoundButTrees}
 use Rattle.stored_mend.specs.Mending.{IsStrangeSlot}
 use Rattle.stored_mend.specs.Rows.{whole_length}
 use Rattle.stored_mend.specs.declared.report.Mended.{Mended as AnyMended}
@@ -26,12 +26,12 @@ abbrev pub index_seen : Table → ℕ → Option Index
 index_seen files i = index_at (whole_catalog files) i
 
 -- the bytes of the file of a name, None where it is not there
-abbrev pub bytes_seen : List ℕ → Table → Option (List ℕ)
-bytes_seen name files = option_map (λ (f : File). f.bytes) (file_named name files)
+abbrev pub bytes_by_name : List ℕ → Table → Option (List ℕ)
+bytes_by_name name files = option_map (λ (f : File). f.bytes) (file_named name files)
 
 -- an index and its tree
 abbrev pub tree_seen : Table → ℕ → Option Index × Option (List ℕ)
-tree_seen files i = (index_seen files i, bytes_seen (tree_file i) files)
+tree_seen files i = (index_seen files i, bytes_by_name (tree_file i) files)
 
 -- ---- what a line tells
 
@@ -55,8 +55,8 @@ pub record IsCatalogLonger (old new : Option ℕ) : Type 0 where
 pub record IsRelationGone (old new : Table) (k : ℕ) : Type 0 where
   pub below : k < 8
   pub unused : relation_seen old k ≡ None
-  pub gone : bytes_seen (rows_file k) new ≡ None
-  pub changed : (slot_bytes new k ≢ slot_bytes old k) ⊎ (bytes_seen (rows_file k) old ≢ None)
+  pub gone : bytes_by_name (rows_file k) new ≡ None
+  pub changed : (slot_bytes new k ≢ slot_bytes old k) ⊎ (bytes_by_name (rows_file k) old ≢ None)
 
 -- a slot has a relation of the name
 pub record IsSlotOf (files : Table) (k : ℕ) (name : List ℕ) : Type 0 where
@@ -75,7 +75,7 @@ pub record IsSlotChanged (old new : Table) (name : List ℕ) : Type 0 where
 pub record AreRowsChanged (old new : Table) (name : List ℕ) : Type 0 where
   pub k : ℕ
   pub slot : IsSlotOf old k name
-  pub changed : bytes_seen (rows_file k) new ≢ bytes_seen (rows_file k) old
+  pub changed : bytes_by_name (rows_file k) new ≢ bytes_by_name (rows_file k) old
 
 -- an index stands on the attribute of a relation, by their names
 pub record IsOn (files : Table) (index : Index) (name attribute : List ℕ) : Type 0 where
@@ -100,7 +100,7 @@ pub record IsTreeChanged (old new : Table) (name attribute : List ℕ) : Type 0 
   pub on : IsIndexOn old i index name attribute
   pub kind : index.kind ≡ MaxHeap
   pub stays : index_seen new i ≡ Some index
-  pub changed : bytes_seen (tree_file i) new ≢ bytes_seen (tree_file i) old
+  pub changed : bytes_by_name (tree_file i) new ≢ bytes_by_name (tree_file i) old
 
 -- an index is gone
 pub record IsIndexGone (old new : Table) (name attribute : List ℕ) : Type 0 where
@@ -113,8 +113,8 @@ pub record IsIndexGone (old new : Table) (name attribute : List ℕ) : Type 0 wh
 pub record IsTreeGone (old new : Table) (i : ℕ) : Type 0 where
   pub below : i < 8
   pub treeless : is_tree (index_seen old i) ≡ false
-  pub was : bytes_seen (tree_file i) old ≢ None
-  pub gone : bytes_seen (tree_file i) new ≡ None
+  pub was : bytes_by_name (tree_file i) old ≢ None
+  pub gone : bytes_by_name (tree_file i) new ≡ None
 
 -- what is told was done
 abbrev pub IsDone : (old new : Table) → AnyMended → Type 0
@@ -170,14 +170,14 @@ IsKeptOrGone old new = (new ≡ old) ⊎ (new ≡ None)
 
 -- rows without a relation stay, or their slot is right
 abbrev pub StaysOrHasSlot : (old new : Table) → (k : ℕ) → Type 0
-StaysOrHasSlot old new k = (bytes_seen (rows_file k) new ≡ bytes_seen (rows_file k) old) ⊎ IsRightSlot None (slot_bytes new k)
+StaysOrHasSlot old new k = (bytes_by_name (rows_file k) new ≡ bytes_by_name (rows_file k) old) ⊎ IsRightSlot None (slot_bytes new k)
 
 -- each thing changes once at most
 pub record ChangesOnce (old new : Table) : Type 0 where
   pub relations : (k : ℕ) → k < 8 → relation_seen new k ≡ relation_seen old k
   pub catalog : StaysOrIsRight IsRightCatalog (size_in old catalog_file) (size_in new catalog_file)
   pub slots : (k : ℕ) → k < 8 → StaysOrIsRight (IsRightSlot (relation_seen old k)) (slot_bytes old k) (slot_bytes new k)
-  pub rows : (k : ℕ) → k < 8 → StaysOrIsRight (AreRightRows (relation_seen old k)) (bytes_seen (rows_file k) old) (bytes_seen (rows_file k) new)
+  pub rows : (k : ℕ) → k < 8 → StaysOrIsRight (AreRightRows (relation_seen old k)) (bytes_by_name (rows_file k) old) (bytes_by_name (rows_file k) new)
   pub lone_rows : (k : ℕ) → k < 8 → relation_seen old k ≡ None → StaysOrHasSlot old new k
   pub indexes : (i : ℕ) → i < 8 → IsKeptOrGone (index_seen old i) (index_seen new i)
   pub trees : (i : ℕ) → i < 8 → StaysOrIsRight IsRightTree (tree_seen old i) (tree_seen new i)
@@ -212,18 +212,18 @@ pub record SparesSlots (old new : Table) (slot : ℕ) : Type 0 where
 -- ---- the same of trees
 
 -- the file of a name is not the tree of some keys
-abbrev pub IsNoTree : Table → List ℕ → List ℤ → Type 0
-IsNoTree files name keys = IsTreeOf (bytes_named name files) keys → ⊥
+abbrev pub IsOtherTree : Table → List ℕ → List ℤ → Type 0
+IsOtherTree files name keys = IsTreeOf (bytes_named name files) keys → ⊥
 
 -- an index whose tree changes, or that is gone, was not complete and is; all else stays
 pub record TreesChangeOnce (old new : Table) : Type 0 where
   pub relations : (k : ℕ) → k < 8 → relation_seen new k ≡ relation_seen old k
   pub catalog : size_in new catalog_file ≡ size_in old catalog_file
   pub slots : (k : ℕ) → k < 8 → slot_bytes new k ≡ slot_bytes old k
-  pub rows : (k : ℕ) → k < 8 → bytes_seen (rows_file k) new ≡ bytes_seen (rows_file k) old
+  pub rows : (k : ℕ) → k < 8 → bytes_by_name (rows_file k) new ≡ bytes_by_name (rows_file k) old
   pub indexes : (i : ℕ) → i < 8 → IsKeptOrGone (index_seen old i) (index_seen new i)
-  pub trees : (i : ℕ) → i < 8 → (tree_seen new i ≡ tree_seen old i) ⊎ ((IsComplete old i → ⊥) × IsComplete new i)
-  pub complete : (i : ℕ) → i < 8 → IsComplete old i → IsComplete new i
+  pub trees : (i : ℕ) → i < 8 → (tree_seen new i ≡ tree_seen old i) ⊎ ((HasCompleteIndex old i → ⊥) × HasCompleteIndex new i)
+  pub complete : (i : ℕ) → i < 8 → HasCompleteIndex old i → HasCompleteIndex new i
 
 pub record ReportsTrees (most : ℕ) (old new : State) (before after : List AnyMended) : Type 0 where
   pub added : List AnyMended

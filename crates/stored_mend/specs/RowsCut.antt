@@ -11,7 +11,7 @@ use Rattle.stored.specs.Mended.{mended_base}
 use Rattle.stored.specs.declared.half.Half.{Half}
 use Rattle.stored_mend.specs.Filled.{HasRemovedMore, IsFilledIn, IsFilledUp}
 use Rattle.stored_mend.specs.Rows.{AreSameRows, ChangesOne, whole_length, whole_rows}
-use Rattle.stored_mend.specs.Whole.{HasFilling, HasRowsBelow, IsFileOf, IsFillable, MendsRows}
+use Rattle.stored_mend.specs.Whole.{HasFilling, HasRowsBelow, IsOnlyFile, IsFillable, MendsRows}
 
 -- a front part is appended to a file of what fills it up
 pub record AppendsFilling (old after : State) (file : ℕ) (attributes : List Attribute) : Type 0 where
@@ -38,7 +38,7 @@ pub record MendsOneFile (catalog : Catalog) (relation : ℕ) (attributes : List 
 -- a part of a row stands at the end of a relation's file as before, which may be longer, behind the same whole rows
 pub record HasPartStill (relation : ℕ) (attributes : List Attribute) (old after : State) : Type 0 where
   pub file : ℕ
-  pub is : IsFileOf old.files (rows_file relation) file
+  pub is : IsOnlyFile old.files (rows_file relation) file
   pub part : whole_length attributes (bytes_at old.files file) < length (bytes_at old.files file)
   pub whole : whole_rows attributes (bytes_at after.files file) ≡ whole_rows attributes (bytes_at old.files file)
   pub others : ChangesOne old after (rows_file relation)

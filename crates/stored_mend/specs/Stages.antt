@@ -22,7 +22,7 @@ pub record IsCatalogSound (files : Table) (half : Half) : Type 0 where
       → IsIndexWhile half index (bytes_named (tree_file i) files) (keys index.attribute (rows_in (mended_base files) index.relation))
 
 -- the same, with whole rows in every relation
-pub record HasWholeRows (files : Table) (half : Half) : Type 0 where
+pub record HasWholeRelations (files : Table) (half : Half) : Type 0 where
   pub stage : IsCatalogSound files half
   pub rows : (k : ℕ) (schema : Schema) → relation files k ≡ Some schema
       → AreRows (mended_catalog files).version schema.attributes (bytes_named (rows_file k) files)

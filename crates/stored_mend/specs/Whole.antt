@@ -28,15 +28,15 @@ is_in_order place None row = true
 is_in_order place (Some last) row = int_le (key_of (slice_get last.tuple place)) (key_of (slice_get row.tuple place))
 
 -- an index takes a row behind so many others: INLINE where its number does not fall, MEMHASH up to 2,048 rows
-abbrev pub takes : IndexKind → (place slots : ℕ) → Option Row → Row → Bool
-takes Inline place slots last row = is_in_order place last row
-takes MaxHeap place slots last row = true
-takes MemHash place slots last row = nat_lt slots 2048
+abbrev pub takes_next : IndexKind → (place slots : ℕ) → Option Row → Row → Bool
+takes_next Inline place slots last row = is_in_order place last row
+takes_next MaxHeap place slots last row = true
+takes_next MemHash place slots last row = nat_lt slots 2048
 
 -- an index of another relation takes any row
 abbrev pub slot_takes : (relation slots : ℕ) → Option Row → Row → Option Index → Bool
 slot_takes relation slots last row None = true
-slot_takes relation slots last row (Some index) = not (index.relation == relation) || takes index.kind index.attribute slots last row
+slot_takes relation slots last row (Some index) = not (index.relation == relation) || takes_next index.kind index.attribute slots last row
 
 -- each index of a relation takes the row
 abbrev pub all_take : List (Option Index) → (relation slots : ℕ) → Option Row → Row → Bool
@@ -75,7 +75,7 @@ pub record IsFillable (catalog : Catalog) (relation : ℕ) (attributes : List At
 -- ---- rows that are whole again
 
 -- the one file of a name
-pub record IsFileOf (files : Table) (name : List ℕ) (file : ℕ) : Type 0 where
+pub record IsOnlyFile (files : Table) (name : List ℕ) (file : ℕ) : Type 0 where
   pub named : IsNamed files file name
   pub only : (k : ℕ) → IsNamed files k name → k ≡ file
   pub within : file < 32
@@ -88,8 +88,8 @@ IsFilledOrCut catalog relation attributes old new file = let before = file_at ol
     × ((bytes_at new.files file ≡ whole_rows attributes before.bytes) ⊎ ((MayEndAt before (whole_length attributes before.bytes) → ⊥) × (new ≡ old))))
 
 -- whole rows stay
-abbrev pub IsMended : Catalog → (relation : ℕ) → List Attribute → (old new : State) → (file : ℕ) → Type 0
-IsMended catalog relation attributes old new file = let bytes = bytes_at old.files file in
+abbrev pub AreRowsMended : Catalog → (relation : ℕ) → List Attribute → (old new : State) → (file : ℕ) → Type 0
+AreRowsMended catalog relation attributes old new file = let bytes = bytes_at old.files file in
     ((whole_length attributes bytes ≡ length bytes) × (new ≡ old))
     ⊎ ((whole_length attributes bytes < length bytes) × IsFilledOrCut catalog relation attributes old new file)
 
@@ -97,7 +97,7 @@ IsMended catalog relation attributes old new file = let bytes = bytes_at old.fil
 abbrev pub MendsRows : Catalog → (relation : ℕ) → List Attribute → (old new : State) → Type 0
 MendsRows catalog relation attributes old new =
     (IsUnnamed old.files (rows_file relation) × (new ≡ old))
-    ⊎ ((file : ℕ) × IsFileOf old.files (rows_file relation) file × IsMended catalog relation attributes old new file)
+    ⊎ ((file : ℕ) × IsOnlyFile old.files (rows_file relation) file × AreRowsMended catalog relation attributes old new file)
 
 -- the rows of the relations in the slots before one are whole
 pub record HasRowsBelow (files : Table) (slot : ℕ) (half : Half) : Type 0 where

@@ -19,7 +19,7 @@ ghost use Rattle.stored_mend.specs.Complete.{LosesIndex};
 ghost use Rattle.stored_mend.specs.Interrupted.{CutMends, IsCutState};
 ghost use Rattle.stored_mend.specs.Listed.{HasWrittenCatalog, IsListedTo, IsMarkedHalf, IsMarkedSlot, IsTakenBack, KeepsKnown, LacksTree, indexes_below, relations_below};
 ghost use Rattle.stored_mend.specs.Mending.{HasInSlot, IsStrangeSlot, IsWholeCatalog, MendsAsBefore, WantsMark};
-ghost use Rattle.stored_mend.specs.Reported.{HasNames, IsOn, Reports, SparesSlots, bytes_seen, with_line};
+ghost use Rattle.stored_mend.specs.Reported.{HasNames, IsOn, Reports, SparesSlots, bytes_by_name, with_line};
 ghost use Rattle.stored_mend.specs.declared.report.Mended.TheVariants.{Index as IndexLine, Relation as RelationLine};
 ghost use Rattle.stored_mend.specs.Trees.{SparesButOne};
 
@@ -257,9 +257,9 @@ fn unused_relation() -> [u8; 176]
 // Reports a relation whose slot is emptied, unless its rows are still to be removed.
 fn report_removed<V: Files>(files: &V, slot: u16, report: &mut Report)
     requires slot { slot < 8 }
-    ensures told { bytes_seen (rows_file slot) (V.state files.now).files ≡ None
+    ensures told { bytes_by_name (rows_file slot) (V.state files.now).files ≡ None
         → report.new.mended ≡ with_line report.old.mended (RelationLine slot) }
-    ensures still { bytes_seen (rows_file slot) (V.state files.now).files ≢ None
+    ensures still { bytes_by_name (rows_file slot) (V.state files.now).files ≢ None
         → report.new.mended ≡ report.old.mended }
 {
     let Some(id) = RelationId::new(slot) else {

@@ -5,7 +5,7 @@
 ghost use Rattle.std.specs.Prelude.{◌≡◌, ◌+◌, ◌-◌, ◌≤◌, ◌<◌, ◌≤ℤ◌, ◌^◌, ◌⊎◌, ℤ, pos, IfNone, IfSome, length, slice_range, take, true};
 ghost use Rattle.afl_base.specs.Fields.{i64_bytes, put_at};
 ghost use Rattle.db_model.specs.Row.{fields_length, width};
-ghost use Rattle.stored_mend.specs.Filled.{FillsField, FillsFields, FillsNumber, IsAlike, IsLeast, least_number, most_number, number_before, number_in};
+ghost use Rattle.stored_mend.specs.Filled.{FillsField, FillsFields, FillsNumber, IsAlike, IsLeast, least_number, most_number, number_before, field_number};
 ghost use Rattle.tuple_file.specs.Column.{is_number};
 
 use afl_base::{get_i32, get_i64, get_u16, put_bytes, put_i64};
@@ -90,7 +90,7 @@ fn is_number(domain: Domain) -> bool
 // The number in the field at a place.
 fn number_in(domain: Domain, row: &[u8], at: usize) -> i64
     requires room { at + width domain ≤ length row.now }
-    ensures { result ≡ number_in domain row.now at }
+    ensures { result ≡ field_number domain row.now at }
 {
     match domain {
         Domain::Int => i64::from(get_u16(row, at).cast_signed()),

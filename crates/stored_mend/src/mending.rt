@@ -16,7 +16,7 @@ ghost use Rattle.stored_mend.specs.Interrupted.{CutMends, IsCutState};
 ghost use Rattle.stored_mend.specs.Listed.{IsListedTo, indexes_below, trees_below};
 ghost use Rattle.stored_mend.specs.Mending.{IsPutRight, MendsAsBefore, PutsRight, StandsForMended};
 ghost use Rattle.stored_mend.specs.Reported.{IsReported, Reports, ReportsInTurn};
-ghost use Rattle.stored_mend.specs.Stages.{HasWholeRows, IsCatalogSound};
+ghost use Rattle.stored_mend.specs.Stages.{HasWholeRelations, IsCatalogSound};
 ghost use Rattle.stored_mend.specs.Trees.{LacksRoom};
 
 use crate::catalogs::{complete_mark, mend_index, mend_relation, take_back_catalog};
@@ -242,7 +242,7 @@ fn mend_all_rows<V: Files>(
     ensures kept { OnOk result (FillsIn (λ slot. ⊤) (V.state files.old) (V.state files.new)) }
     ensures whole { IsTrue (V.state files.old).tells → catalog_slots catalog.now ≡ catalog_in (V.state files.old).files
         → (half : Half) → IsCatalogSound (V.state files.old).files half
-        → OnOk result ((after : Half) × HasWholeRows (V.state files.new).files after) }
+        → OnOk result ((after : Half) × HasWholeRelations (V.state files.new).files after) }
     ensures cut { IsTrue (V.state files.old).tells
         → catalog_slots catalog.now ≡ catalog_in (V.state files.old).files
         → (half : Half) → IsCatalogSound (V.state files.old).files half

@@ -6,7 +6,7 @@ ghost use Rattle.std.specs.Prelude.{◌≡◌, ◌≤◌, length, option_map, sl
 ghost use Rattle.catalog.specs.CatalogFile.{index_in, indexes_in};
 ghost use Rattle.db_model.specs.Row.{fields_length, row_of, tuple_of};
 ghost use Rattle.db_model.specs.Step.{key_of};
-ghost use Rattle.stored_mend.specs.Whole.{all_take, is_in_order, row_read, slot_takes, takes};
+ghost use Rattle.stored_mend.specs.Whole.{all_take, is_in_order, row_read, slot_takes, takes_next};
 
 use afl_base::RelationId;
 use catalog::IndexEntry;
@@ -69,7 +69,7 @@ fn takes(
 ) -> bool
     requires row { fields_length attributes.now ≤ length row.now }
     requires before { 1 ≤ length before.now → fields_length attributes.now ≤ length before.now }
-    ensures { result ≡ takes index.now.kind index.now.attribute slots (row_read attributes.now before.now)
+    ensures { result ≡ takes_next index.now.kind index.now.attribute slots (row_read attributes.now before.now)
         (row_of attributes.now row.now) }
 {
     match index.kind {

@@ -21,14 +21,14 @@ ghost use Rattle.space_model.specs.FileNames.{rows_file, tree_file};
 ghost use Rattle.stored.specs.Mended.{mended_base};
 ghost use Rattle.stored.specs.Sound.{IsSoundTable};
 ghost use Rattle.stored.specs.declared.half.Half.{Half as AnyHalf};
-ghost use Rattle.stored_mend.specs.Complete.{AreComplete, AreKeysIn, CompletesFirst, CompletesSlot, HasSlot, IsComplete, IsSoundButTrees, LosesTree, SettlesSlot};
+ghost use Rattle.stored_mend.specs.Complete.{HasCompleteIndexes, AreKeysIn, CompletesFirst, CompletesSlot, HasSlot, HasCompleteIndex, IsSoundButTrees, LosesTree, SettlesSlot};
 ghost use Rattle.stored_mend.specs.CutTrees.{AreTreesWhile, CompletesBut, IndexWaits, KeepsTrees, MayMakeRoom, MayMendTree, MayPutKey, MayRemoveTree, MayReplaceTree, StaysWithout};
 ghost use Rattle.stored_mend.specs.Interrupted.{CutMends, IsCutState};
 ghost use Rattle.stored_mend.specs.Keys.{AreKeys};
 ghost use Rattle.stored_mend.specs.Mending.{KeepsBase};
-ghost use Rattle.stored_mend.specs.Reported.{IsNoTree, ReportsTrees, bytes_seen, with_line};
+ghost use Rattle.stored_mend.specs.Reported.{IsOtherTree, ReportsTrees, bytes_by_name, with_line};
 ghost use Rattle.stored_mend.specs.declared.report.Mended.TheVariants.{Tree as TreeLine};
-ghost use Rattle.stored_mend.specs.Stages.{HasWholeRows};
+ghost use Rattle.stored_mend.specs.Stages.{HasWholeRelations};
 ghost use Rattle.stored_mend.specs.Trees.{BecomesTree, BuildsTree, ChangesAtMost, HasTreeNow, KeepsButTrees, LacksRoom, LosesTrees, SparesButTree};
 
 use crate::catalogs::mend_index;
@@ -53,21 +53,21 @@ pub fn mend_all_trees<V: Files>(
     ensures kept { OnOk result
         (KeepsButTrees (LacksRoom V.state V.lacks) (V.state files.old) (V.state files.new)) }
     ensures sound { IsTrue (V.state files.old).tells → catalog_slots catalog.now ≡ catalog_in (V.state files.old).files
-        → (half : AnyHalf) → HasWholeRows (V.state files.old).files half
+        → (half : AnyHalf) → HasWholeRelations (V.state files.old).files half
         → OnOk result (IsSoundTable (V.state files.new).files) }
     ensures cut { IsTrue (V.state files.old).tells
         → catalog_slots catalog.now ≡ catalog_in (V.state files.old).files
-        → (half : AnyHalf) → HasWholeRows (V.state files.old).files half
+        → (half : AnyHalf) → HasWholeRelations (V.state files.old).files half
         → CutMends V.cuts V.mends V.state files.new (WhereFailed result)
         (λ db. LosesTrees (mended_base (V.state files.old).files) db) }
     ensures space { IsTrue (V.state files.old).tells
         → catalog_slots catalog.now ≡ catalog_in (V.state files.old).files
-        → (half : AnyHalf) → HasWholeRows (V.state files.old).files half
+        → (half : AnyHalf) → HasWholeRelations (V.state files.old).files half
         → OnSpace result (λ need. IsCutState (V.state files.new)
         (λ db. LosesTrees (mended_base (V.state files.old).files) db)) }
     ensures frame { ChangesOrLacks V.state V.lent V.reads V.faults V.lacks files.old files.new result }
     ensures reported { IsTrue (V.state files.old).tells → catalog_slots catalog.now ≡ catalog_in (V.state files.old).files
-        → (half : AnyHalf) → HasWholeRows (V.state files.old).files half
+        → (half : AnyHalf) → HasWholeRelations (V.state files.old).files half
         → OnOk result (ReportsTrees 16 (V.state files.old) (V.state files.new) report.old.mended report.new.mended) }
 {
     let waiting = mend_trees(files, catalog, report)?;
@@ -98,12 +98,12 @@ fn mend_trees<V: Files>(
         × CompletesBut (V.state files.old) (V.state files.new) catalog.now 8 waits) }
     ensures trees { OnOk result (KeepsTrees (V.state files.old) (V.state files.new) catalog.now) }
     ensures cut { IsTrue (V.state files.old).tells → (half : AnyHalf)
-        → AreComplete (V.state files.old).files catalog.now 0
+        → HasCompleteIndexes (V.state files.old).files catalog.now 0
         → AreTreesWhile (V.state files.old).files half
         → CutMends V.cuts V.mends V.state files.new (OnErr result)
         (λ db. db ≡ mended_base (V.state files.old).files) }
     ensures frame { Changes V.state V.lent V.reads V.faults files.old files.new result }
-    ensures reported { IsTrue (V.state files.old).tells → AreComplete (V.state files.old).files catalog.now 0
+    ensures reported { IsTrue (V.state files.old).tells → HasCompleteIndexes (V.state files.old).files catalog.now 0
         → OnOk result (ReportsTrees 8 (V.state files.old) (V.state files.new) report.old.mended report.new.mended) }
 {
     let mut waiting = 0;
@@ -237,7 +237,7 @@ fn keys_of_tree<V: Files>(files: &V, catalog: &Catalog, id: IndexId) -> Option<K
         → IfSome result (λ keys. AreKeysIn (V.state files.now).files id
         (first_keys (key_of (V.state files.now) keys.column) keys.slots)) }
     ensures none { HasSlot (V.state files.now).files catalog.now id → IsSoundButTrees (V.state files.now).files
-        → IfNone result (IsComplete (V.state files.now).files id) }
+        → IfNone result (HasCompleteIndex (V.state files.now).files id) }
 {
     let Some(entry) = catalog.indexes[id.number() as usize] else {
         return None;
@@ -304,7 +304,7 @@ fn mend_tree_of<V: Files>(files: &mut V, name: Name, keys: &Keyed) -> Result<boo
         CutLeaves V.cuts V.mends V.state files.old files.new (WhereFailed result)
         (λ after. MayMendTree (V.state files.old) after name ks) }
     ensures frame { ChangesOrLacks V.state V.lent V.reads V.faults V.lacks files.old files.new result }
-    ensures wrong { IsTrue (V.state files.old).tells → IfOk result (λ made. made ≡ true → IsNoTree
+    ensures wrong { IsTrue (V.state files.old).tells → IfOk result (λ made. made ≡ true → IsOtherTree
         (V.state files.old).files name (first_keys (key_of (V.state files.old) keys.now.column) keys.now.slots)) }
 {
     let Some(tree) = files.find(name) else {
@@ -444,7 +444,7 @@ fn replace_tree<V: Files>(
     ensures frame { ChangesOrLacks V.state V.lent V.reads V.faults V.lacks files.old files.new result }
     ensures reported { IsTrue (V.state files.old).tells → HasSlot (V.state files.old).files catalog.now slot
         → IsSoundButTrees (V.state files.old).files
-        → (IsComplete (V.state files.old).files slot → ⊥)
+        → (HasCompleteIndex (V.state files.old).files slot → ⊥)
         → OnOk result (ReportsTrees 1 (V.state files.old) (V.state files.new) report.old.mended report.new.mended) }
 {
     match has_tree_again(files, slot, catalog, report) {
@@ -481,7 +481,7 @@ fn has_tree_again<V: Files>(
         (λ db. LosesTrees (mended_base (V.state files.old).files) db) }
     ensures frame { Changes V.state V.lent V.reads V.faults files.old files.new result }
     ensures reported { IsTrue (V.state files.old).tells → HasSlot (V.state files.old).files catalog.now slot
-        → IsSoundButTrees (V.state files.old).files → (IsComplete (V.state files.old).files slot → ⊥)
+        → IsSoundButTrees (V.state files.old).files → (HasCompleteIndex (V.state files.old).files slot → ⊥)
         → IfOk result (λ stands. stands ≡ true
         → ReportsTrees 1 (V.state files.old) (V.state files.new) report.old.mended report.new.mended) }
     ensures still { IfOk result (λ stands. stands ≡ false → report.new.mended ≡ report.old.mended) }

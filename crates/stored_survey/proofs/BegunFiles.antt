@@ -16,6 +16,7 @@ use Rattle.stored.specs.CutTables.{IsBegun, IsFirstInPart, first_catalog}
 use Rattle.stored.proofs.FilesOf.{IsNumbered, by_kind}
 use Rattle.stored.proofs.HasFiles.{no_stranger}
 use Rattle.stored.proofs.SoundCut.{named_there}
+use Rattle.stored_mend.proofs.OneFile.{same_rows_slot as rows_apart}
 use Rattle.stored_mend.proofs.SlotShape.{sound_of}
 use Rattle.stored_survey.specs.Parts.{HasNoMore, IsCatalogFront}
 
@@ -29,9 +30,6 @@ file_of : (files : Table) (id : ℕ) (name : List ℕ) → IsNamed files id name
 file_of files id name e =
     let there : place files id ≡ Some (file_at files id) = place_live files id (named_live files id name e) in
     record { file = file_at files id; there = there; named = some_same (file_at files id).name name (sym (named_here files id (file_at files id) there) ∙ e) }
-
-rows_apart : (a b : ℕ) → rows_file a ≡ rows_file b → a ≡ b
-rows_apart a b e = let same : 48 + a ≡ 48 + b = ap (λ (xs : List ℕ). get_or xs 1 0) e in omega (arith, same)
 
 schema_of_name : (name : List ℕ) → is_name name ≡ true → is_schema 2 (record { name = name; attributes = [] }) ≡ true
 schema_of_name name e = ap (λ (b : Bool). (b && true) && true) e

@@ -22,7 +22,7 @@ use Rattle.stored.specs.declared.half.Half.{Half}
 use Rattle.stored.specs.declared.half.Half.TheVariants.{Nothing, Emptying, Growing, LoneRows, Treeless, LoneTree, AddingRow, AddingKey}
 use Rattle.tuple_file.specs.Tuples.{AreRows}
 use Rattle.tuple_file.proofs.Written.{length-written}
-use Rattle.stored_survey.specs.Shown.{HasTree, IsSettledIndex, IsSettledSlot, LacksKey, Shows, keys_mended}
+use Rattle.stored_survey.specs.Shown.{HasTreeOfKeys, IsSettledIndex, IsSettledSlot, LacksSomeKey, Shows, keys_mended}
 use Rattle.stored_survey.proofs.Slots.{IsStanding, read_stands, relation_below, stands, stands_as_read, heap_of}
 
 -- ---- marks
@@ -87,7 +87,7 @@ settled_tree files i (Some index) s tree = (s (heap_of index tree)).0
 settled_free : (files : Table) (i : ℕ) (o : Option Index) → IsSettledIndex files i o → o ≡ None → is_there (tree_file i) files ≡ false
 settled_free files i o s e = subst (IsSettledIndex files i) e s
 
-settled_keys : (files : Table) (i : ℕ) (index : Index) (o : Option Index) → o ≡ Some index → IsSettledIndex files i o → index.kind ≡ MaxHeap → is_there (rows_file index.relation) files ≡ true → HasTree files i index
+settled_keys : (files : Table) (i : ℕ) (index : Index) (o : Option Index) → o ≡ Some index → IsSettledIndex files i o → index.kind ≡ MaxHeap → is_there (rows_file index.relation) files ≡ true → HasTreeOfKeys files i index
 settled_keys files i index o e s kind = (subst (IsSettledIndex files i) e s kind).1
 
 -- ---- rows
@@ -146,11 +146,11 @@ module _ (files : Table) (half : Half) (h : IsHalfDone files half) where
       let on = stands files i index below e (h.indexes i below) in
       h.rows_there index.relation on.below (inl (ap is_some on.relation_is))
 
-  complete_tree : (index : Index) (bytes : List ℕ) (i : ℕ) → index.kind ≡ MaxHeap → bytes ≡ bytes_named (tree_file i) files → IsIndexComplete index.kind bytes (keys_mended files index) → HasTree files i index
+  complete_tree : (index : Index) (bytes : List ℕ) (i : ℕ) → index.kind ≡ MaxHeap → bytes ≡ bytes_named (tree_file i) files → IsIndexComplete index.kind bytes (keys_mended files index) → HasTreeOfKeys files i index
   complete_tree index bytes i kind is complete =
       subst (λ (xs : List ℕ). IsIndexComplete MaxHeap xs (keys_mended files index)) is (subst (λ (one : IndexKind). IsIndexComplete one bytes (keys_mended files index)) kind complete)
 
-  adding_key : (r : ℕ) → LacksKey files r → half ≡ AddingKey r
+  adding_key : (r : ℕ) → LacksSomeKey files r → half ≡ AddingKey r
   adding_key r lacks = ⊎_elim
       (λ (complete : IsIndexComplete lacks.index.kind (bytes_named (tree_file lacks.i) files) (keys_mended files lacks.index)).
       absurd (lacks.lacks (subst (λ (n : ℕ). is_there (rows_file n) files ≡ true) lacks.on (rows_under lacks.i lacks.index lacks.below lacks.stands))

@@ -19,7 +19,7 @@ use Rattle.db_model.specs.Catalog.{Index}
 use Rattle.db_model.specs.Names.{is_name}
 use Rattle.db_model.specs.Row.{row_length, rows_of, slots_in_bytes, width}
 use Rattle.db_model.specs.Sound.{are_distinct, attribute_names}
-use Rattle.db_model.specs.Step.{allows, first_fall, keys, slots_limit}
+use Rattle.db_model.specs.Step.{allows, first_fall, keys}
 use Rattle.index_tree.specs.Trees.{IsTreeOf}
 use Rattle.index_tree.proofs.Numbered.{numbered_length}
 use Rattle.padded.proofs.Facts.{both_parts, some_same, true_le}
@@ -30,22 +30,16 @@ use Rattle.stored.specs.Sound.{IsIndexComplete}
 use Rattle.stored.specs.declared.half.Half.TheVariants.{AddingKey}
 use Rattle.stored.specs.Mended.{mended_catalog}
 use Rattle.stored.specs.declared.half.Half.{Half}
+use Rattle.stored_mend.proofs.FilledRows.{limit_most as few_slots}
 use Rattle.stored_mend.specs.Keys.{HasTooMany, IsKeysOf, MayHaveKeys}
 use Rattle.stored_survey.specs.Asked.{AreSoundBeside, IsReadAs}
-use Rattle.stored_survey.specs.Pieces.{IsReadIndex, IsWritten}
+use Rattle.stored_survey.specs.Pieces.{IsReadIndex, IsRowWritten}
 use Rattle.stored_survey.specs.Shown.{keys_mended}
 use Rattle.stored_survey.proofs.HalfParts.{found_bytes, only_bytes, there_found}
 use Rattle.stored_mend.proofs.ColumnKeys.{keys_count, narrow_keys, narrow_width}
 use Rattle.stored_survey.proofs.KeysRead.{keys_of_rows, ordered_keys}
 use Rattle.stored_survey.proofs.RowsHeld.{held_each}
 use Rattle.stored_survey.proofs.Slots.{StandsOn, stands}
-
-few_slots : (version : ℕ) → slots_limit version ≤ 32768
-few_slots version = by_test (version == 1)
-  where
-    by_test : (b : Bool) → (if b then 16384 else 32768) ≤ 32768
-    by_test true = omega arith
-    by_test false = omega arith
 
 -- a schema has rows of at most 128 bytes
 pub short_row : (v : ℕ) (schema : Schema) → is_schema v schema ≡ true → row_length schema.attributes ≤ 128
@@ -155,7 +149,7 @@ module _ (state : State) (catalog : Catalog) (read : IsReadAs state.files catalo
         let held = held_each half (mended_catalog files).version r k.schema.attributes (bytes_named (rows_file r) files) ((sound r on.below).rows k.schema relation_is) in
         let count : slots ≡ slots_in_bytes k.schema.attributes (bytes_named (rows_file r) files) = k.numbers.slots_are ∙ ap (slots_in_bytes k.schema.attributes) rows_read in
         ordered_keys state k.schema.attributes entry.attribute column slots k.numbers (subst (λ (one : IndexKind). allows one k.numbers.attribute.domain ≡ true) kind allowed)
-        (λ slot below. subst (λ (xs : List ℕ). IsWritten k.schema.attributes xs slot) (sym rows_read) (held.written slot (omega (arith, below, count))))
+        (λ slot below. subst (λ (xs : List ℕ). IsRowWritten k.schema.attributes xs slot) (sym rows_read) (held.written slot (omega (arith, below, count))))
         ∙ here
 
   -- ---- none

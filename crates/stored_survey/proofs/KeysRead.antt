@@ -32,7 +32,7 @@ use Rattle.stored_mend.proofs.ColumnKeys.{all_numbers}
 use Rattle.tuple_file.specs.Column.{is_number}
 use Rattle.tuple_file.proofs.Columns.{key_in_slot}
 use Rattle.tuple_file.proofs.Slots.{slot_field}
-use Rattle.stored_survey.specs.Pieces.{AreWritten, IsWritten}
+use Rattle.stored_survey.specs.Pieces.{AreWritten, IsRowWritten}
 use Rattle.stored_survey.specs.Shown.{keys_mended}
 use Rattle.stored_survey.proofs.Slots.{relation_at_slot, relation_below}
 

@@ -19,10 +19,10 @@ use Rattle.db_model.proofs.Catalogs.{relation_slot_back}
 use Rattle.padded.specs.Padded.{padded}
 use Rattle.padded.specs.Zeros.{is_zeros}
 use Rattle.padded.proofs.Facts.{both_parts, both_true, le_true, yes_no}
-use Rattle.stored.specs.CutTables.{IsEdge, with_attribute}
+use Rattle.stored.specs.CutTables.{IsEdge, schema_with_attribute}
 use Rattle.stored_mend.proofs.PutOver.{are_zeros, drop_zeros, take_zeros, zeros_are}
 use Rattle.stored_mend.proofs.SlotShape.{length-attribute, length-name, sound_of}
-use Rattle.stored_survey.specs.Parts.{IsApart, IsAttributeEnd, IsMoreInPart, IsNameFront, IsPartAt, IsWholeMore}
+use Rattle.stored_survey.specs.Parts.{EndsBeforeCount, IsAttributeEnd, IsMoreInPart, IsNameFront, IsPartAt, IsWholeMore}
 use Rattle.stored_survey.proofs.NameParts.{x_name}
 
 -- ---- a part that is put over zeros
@@ -71,12 +71,12 @@ module _ (k : ℕ) (field : List ℕ) (schema : Schema) where
   abbrev place : ℕ
   place = 16 + 18 * length schema.attributes
 
-  pub more_cases : IsMoreInPart k field schema → (IsApart k (place + 18) × IsWholeMore field schema) ⊎ StandsAtEdge k field schema
+  pub more_cases : IsMoreInPart k field schema → (EndsBeforeCount k (place + 18) × IsWholeMore field schema) ⊎ StandsAtEdge k field schema
   more_cases m =
       ⊎_elim
       (λ (zero_ : m.begin ≡ 0). ⊎_elim
       (λ (all : m.upto ≡ 18). inl (
-        subst (λ (n : ℕ). IsApart k (place + n)) all m.apart,
+        subst (λ (n : ℕ). EndsBeforeCount k (place + n)) all m.apart,
         record {
           more = m.more;
           valid = m.valid;
@@ -125,13 +125,13 @@ module _ (k : ℕ) (field : List ℕ) (schema : Schema) where
             part = record {
               more = m.more;
               valid = m.valid;
-              bytes = inr (subst (λ (n : ℕ). IsApart k (place + n)) all m.apart, field_is m.begin 18 refl all ∙ put_end (attribute_bytes m.more) m.begin long (omega (arith, m.inside.0, m.inside.1)));
+              bytes = inr (subst (λ (n : ℕ). EndsBeforeCount k (place + n)) all m.apart, field_is m.begin 18 refl all ∙ put_end (attribute_bytes m.more) m.begin long (omega (arith, m.inside.0, m.inside.1)));
             };
           })
           (λ (less : m.upto ≢ 18). absurd (edge_once k (length schema.attributes) m.begin m.upto m.inside.0 (omega (arith, m.inside.1, less)) (first_edge some) (last_edge less)))
           (cases_eq m.upto 18)
 
-  pub whole_more : IsApart k (place + 18) → IsWholeMore field schema → IsMoreInPart k field schema
+  pub whole_more : EndsBeforeCount k (place + 18) → IsWholeMore field schema → IsMoreInPart k field schema
   whole_more apart w = record {
     more = w.more;
     valid = w.valid;
@@ -176,17 +176,17 @@ module _ (k : ℕ) (field : List ℕ) (schema : Schema) where
 
   -- ---- the answers
 
-  pub whole_answers : IsApart k (place + 18) × IsWholeMore field schema → Decides true (IsMoreInPart k field schema)
+  pub whole_answers : EndsBeforeCount k (place + 18) × IsWholeMore field schema → Decides true (IsMoreInPart k field schema)
   whole_answers w = (λ e. whole_more w.0 w.1, λ m. refl)
 
   pub part_answers : (at : ℕ) → 1 ≤ at → at < 17 → IsEdge k (place + at) × IsPartAt k place at field → Decides true (IsMoreInPart k field schema)
   part_answers at some few p = (λ e. part_more at some few p.0 p.1, λ m. refl)
 
-  pub never_more : (IsApart k (place + 18) × IsWholeMore field schema → ⊥) → ((at : ℕ) → 1 ≤ at → at < 17 → IsEdge k (place + at) × IsPartAt k place at field → ⊥) → Decides false (IsMoreInPart k field schema)
+  pub never_more : (EndsBeforeCount k (place + 18) × IsWholeMore field schema → ⊥) → ((at : ℕ) → 1 ≤ at → at < 17 → IsEdge k (place + at) × IsPartAt k place at field → ⊥) → Decides false (IsMoreInPart k field schema)
   never_more none_whole none_part = (
     λ e. absurd (cc),
     λ m. ⊎_elim
-        (λ (w : IsApart k (place + 18) × IsWholeMore field schema). absurd (none_whole w))
+        (λ (w : EndsBeforeCount k (place + 18) × IsWholeMore field schema). absurd (none_whole w))
         (λ (s : StandsAtEdge k field schema). absurd (none_part s.at s.some s.few (s.edge, s.part)))
         (more_cases m),
   )
@@ -242,7 +242,7 @@ all_slots (x ∷ xs) a all one =
     both_true (is_attribute_slot 2 x) (list_all (is_attribute_slot 2) (xs ++ a ∷ [])) parts.0 (all_slots xs a parts.1 one)
 
 -- a relation may be given an attribute where its row stays one
-pub row_fits : (schema : Schema) (a : Attribute) → is_schema 2 schema ≡ true → length schema.attributes < 8 → IsAttribute a → is_row (schema.attributes ++ a ∷ []) ≡ true → is_schema 2 (with_attribute schema a) ≡ true
+pub row_fits : (schema : Schema) (a : Attribute) → is_schema 2 schema ≡ true → length schema.attributes < 8 → IsAttribute a → is_row (schema.attributes ++ a ∷ []) ≡ true → is_schema 2 (schema_with_attribute schema a) ≡ true
 row_fits schema a e few valid row =
     let s = sound_of 2 schema e in
     let all : list_all (is_attribute_slot 2) (schema.attributes ++ a ∷ []) ≡ true = all_slots schema.attributes a s.all (attribute_slot a valid) in
@@ -261,7 +261,7 @@ fits_decides r field schema more e few long there is = (
   λ t. record { more = more; valid = there.0; fits = row_fits schema more e few there.0 (sym is ∙ t); bytes = whole_end field more long there },
   λ w.
       let same : w.more ≡ more = same_attribute w.more more w.valid there.0 (sym w.bytes ∙ whole_end field more long there) in
-      is ∙ ap (λ (a : Attribute). is_row (schema.attributes ++ a ∷ [])) (sym same) ∙ (sound_of 2 (with_attribute schema w.more) w.fits).row,
+      is ∙ ap (λ (a : Attribute). is_row (schema.attributes ++ a ∷ [])) (sym same) ∙ (sound_of 2 (schema_with_attribute schema w.more) w.fits).row,
 )
 
 pub no_attribute : (field : List ℕ) (schema : Schema) → length field ≡ 18 → ((a : Attribute) → IsAttributeEnd field a → ⊥) → Decides false (IsWholeMore field schema)
@@ -303,7 +303,7 @@ module _ (k begin at : ℕ) (field : List ℕ) (long : length field ≡ 18) (som
   left : length (drop at field) ≡ 18 - at
   left = length-drop at field ∙ ap (λ (n : ℕ). n - at) long
 
-  pub front_decides : (r : Bool) → is_zeros (drop at field) ≡ true → Decides r (IsApart k (begin + at) × ((name : List ℕ) × IsNameFront (take at field) name)) → Decides r (IsPartAt k begin at field)
+  pub front_decides : (r : Bool) → is_zeros (drop at field) ≡ true → Decides r (EndsBeforeCount k (begin + at) × ((name : List ℕ) × IsNameFront (take at field) name)) → Decides r (IsPartAt k begin at field)
   front_decides r zeros d = (
     λ t.
         let found = d.0 t in
@@ -350,7 +350,7 @@ module _ (k begin at : ℕ) (field : List ℕ) (long : length field ≡ 18) (som
         p.bytes,
   )
 
-  pub end_decides : (r : Bool) → is_zeros (drop at field) ≡ false → is_zeros (take at field) ≡ true → Decides r (IsApart k (begin + 18) × ((a : Attribute) × IsAttributeEnd (drop at field) a)) → Decides r (IsPartAt k begin at field)
+  pub end_decides : (r : Bool) → is_zeros (drop at field) ≡ false → is_zeros (take at field) ≡ true → Decides r (EndsBeforeCount k (begin + 18) × ((a : Attribute) × IsAttributeEnd (drop at field) a)) → Decides r (IsPartAt k begin at field)
   end_decides r not_behind zeros d =
       let gap : 18 - length (drop at field) ≡ at = omega (arith, left, few) in (
         λ t.

@@ -9,6 +9,7 @@ use Rattle.std.proofs.lemmas.Bool.Decides.{nat_tests}
 use Rattle.std.proofs.lemmas.Slice.Eq.{bytes_eq-Decides}
 use Rattle.std.proofs.lemmas.List.{drop_at, length-replicate, length-drop, length-map, take-append-drop, take-replicate, take_at}
 use Rattle.afl_base.specs.Fields.{put_at}
+use Rattle.db_model.proofs.Catalogs.{word_byte-some}
 use Rattle.db_model.specs.declared.tokens.Keyword.{Keyword}
 use Rattle.db_model.specs.Keywords.{keyword_among, keyword_of, keyword_text, keywords}
 use Rattle.db_model.specs.Names.{is_name, is_word, is_word_byte}
@@ -20,10 +21,6 @@ use Rattle.stored_survey.specs.Parts.{IsNameEnd}
 use Rattle.stored_mend.proofs.PutOver.{drop_joined, drop_zeros, zeros_are}
 
 -- ---- bytes of words
-
-word_byte-some : (b : ℕ) → is_word_byte b ≡ true → (b == 0) ≡ false
-word_byte-some zero e = cc
-word_byte-some (suc b) e = grind (arith, nat_tests)
 
 letter_is_word_byte : (b : ℕ) → is_ascii_alphabetic b ≡ true → is_word_byte b ≡ true
 letter_is_word_byte b e = by_tests (is_in_range 48 57 b) (is_in_range 65 90 b) (is_in_range 97 122 b) (b == 95) e

@@ -1,20 +1,19 @@
 -- Rows that a file holds are those that are written as they are read.
-use Rattle.std.proofs.Common.{◌≡◌, ◌≢◌, ◌⊎◌, inl, inr, ⊎_elim, ℕ, ◌+◌, ◌*◌, ◌/◌, ◌%◌, ◌<◌, ◌≤◌, ◌-◌, List, [], ◌++◌, length, take, drop, refl, ap, sym, subst, ◌∙◌, arith}
+use Rattle.std.proofs.Common.{◌≡◌, ◌≢◌, ◌⊎◌, inl, inr, ⊎_elim, ℕ, ◌+◌, ◌*◌, ◌/◌, ◌%◌, ◌<◌, ◌≤◌, ◌-◌, List, [], ◌++◌, length, take, drop, ap, sym, subst, ◌∙◌, arith}
 use Rattle.std.specs.Prelude.{slice_range}
 use Rattle.std.proofs.Math.Nat.{div-add-mod}
-use Rattle.std.proofs.lemmas.List.{drop-append-le, length-drop, length-take-le, take-append-drop, take-append-le, take_all}
+use Rattle.std.proofs.lemmas.List.{length-take-le, take-append-drop, take_all}
 use Rattle.db_model.specs.declared.schemas.Attribute.{Attribute}
 use Rattle.db_model.specs.Row.{row_bytes, row_length, row_of, rows_bytes, rows_of, slots_in_bytes}
 use Rattle.db_model.specs.Step.{slots_limit}
-use Rattle.db_model.proofs.Rows.{slot_inside}
+use Rattle.db_model.proofs.Rows.{slot_same}
 use Rattle.stored.specs.CutTables.{HoldsRowsOr}
 use Rattle.stored.specs.declared.half.Half.{Half}
 use Rattle.stored.specs.declared.half.Half.TheVariants.{AddingRow}
-use Rattle.tuple_file.specs.Tuples.{AreRows}
 use Rattle.tuple_file.proofs.Slots.{slots_of_whole}
 use Rattle.tuple_file.proofs.Written.{written_each, written_first, written_from}
-use Rattle.stored_survey.specs.Pieces.{AreWritten, IsWritten}
-use Rattle.stored_survey.proofs.HalfShown.{whole_rows, whole_taken}
+use Rattle.stored_survey.specs.Pieces.{AreWritten}
+use Rattle.stored_survey.proofs.HalfShown.{whole_rows}
 
 -- all that is asked of rows, one by one
 pub record HoldsEach (half : Half) (version k : ℕ) (attributes : List Attribute) (bytes : List ℕ) : Type 0 where
@@ -22,14 +21,6 @@ pub record HoldsEach (half : Half) (version k : ℕ) (attributes : List Attribut
   pub few : slots_in_bytes attributes bytes ≤ slots_limit version
   pub some : attributes ≡ [] → bytes ≡ []
   pub whole : (length bytes % row_length attributes ≡ 0) ⊎ (half ≡ AddingRow k)
-
--- the bytes of a slot stay where more bytes come behind all slots
-slot_same : (size k n : ℕ) (xs ys : List ℕ) → length xs ≡ size * n → k < n → slice_range (xs ++ ys) (size * k) (size * k + size) ≡ slice_range xs (size * k) (size * k + size)
-slot_same size k n xs ys long below =
-    let inside = slot_inside size k n below in
-    let at : drop (size * k) (xs ++ ys) ≡ drop (size * k) xs ++ ys = drop-append-le (size * k) xs ys (omega (arith, long, inside)) in
-    let left = length-drop (size * k) xs in
-    rw at (take-append-le (size * k + size - size * k) (drop (size * k) xs) ys (omega (arith, left, long, inside)))
 
 module _ (attributes : List Attribute) (bytes : List ℕ) where
   abbrev count : ℕ
@@ -73,7 +64,7 @@ all_taken attributes bytes none =
     let size : row_length attributes * slots_in_bytes attributes bytes ≡ length bytes = ap (λ (n : ℕ). n * (length bytes / n)) one ∙ omega arith in
     take_all (row_length attributes * slots_in_bytes attributes bytes) bytes (omega (arith, size))
 
-nothing_taken : (n : ℕ) → take {A = ℕ} n [] ≡ []
+pub nothing_taken : (n : ℕ) → take {A = ℕ} n [] ≡ []
 nothing_taken n = take_all {A = ℕ} n [] (omega arith)
 
 pub rows_held : (half : Half) (version k : ℕ) (attributes : List Attribute) (bytes : List ℕ) → HoldsEach half version k attributes bytes → HoldsRowsOr half version k attributes bytes

@@ -16,7 +16,7 @@ use Rattle.stored.specs.CutTables.{index_read, relation, slot_bytes}
 use Rattle.stored.specs.declared.half.Half.{Half}
 use Rattle.stored.specs.declared.half.Half.TheVariants.{Nothing, Emptying, Growing, LoneRows, Treeless, LoneTree, AddingRow, AddingKey}
 use Rattle.stored_survey.specs.Pieces.{RowsShow}
-use Rattle.stored_survey.specs.Shown.{HasTree, IsSettledIndex, IsSettledSlot, Shows, ShowsIndex, ShowsIndexes, ShowsSlot}
+use Rattle.stored_survey.specs.Shown.{HasTreeOfKeys, IsSettledIndex, IsSettledSlot, Shows, ShowsIndex, ShowsIndexes, ShowsSlot}
 use Rattle.stored_survey.proofs.HalfParts.{gone_bytes}
 use Rattle.stored_survey.proofs.Slots.{tree_of}
 pub use Rattle.stored_mend.proofs.HeapSettled.{default_same}
@@ -113,10 +113,10 @@ module _ (files : Table) (i : ℕ) (below : i < 8) where
     pub treeless_seen : index.kind ≡ MaxHeap → is_there (tree_file i) files ≡ false → ShowsIndex files i (Treeless i)
     treeless_seen kind gone = ((λ e. absurd (let n : ⊥ = cc in n)), (λ differs. (below, ap is_tree is ∙ tree_of index kind, gone)))
 
-    pub tree_seen : is_there (tree_file i) files ≡ true → (is_there (rows_file index.relation) files ≡ true → HasTree files i index) → ShowsIndex files i Nothing
+    pub tree_seen : is_there (tree_file i) files ≡ true → (is_there (rows_file index.relation) files ≡ true → HasTreeOfKeys files i index) → ShowsIndex files i Nothing
     tree_seen there whole = calm_seen (subst (IsSettledIndex files i) (sym is) (λ kind. (there, whole)))
 
-    pub lacking_seen : index.kind ≡ MaxHeap → is_there (tree_file i) files ≡ true → (is_there (rows_file index.relation) files ≡ true → HasTree files i index → ⊥) → ShowsIndex files i (AddingKey index.relation)
+    pub lacking_seen : index.kind ≡ MaxHeap → is_there (tree_file i) files ≡ true → (is_there (rows_file index.relation) files ≡ true → HasTreeOfKeys files i index → ⊥) → ShowsIndex files i (AddingKey index.relation)
     lacking_seen kind there lacks = (
       (λ e. absurd (let n : ⊥ = cc in n)),
       (λ differs. record { i = i; below = below; index = index; stands = is; kind = kind; on = refl; there = there; lacks = lacks }),

@@ -16,6 +16,7 @@ use Rattle.padded.specs.Padded.{padded}
 use Rattle.padded.specs.Zeros.{is_zeros}
 use Rattle.padded.proofs.Facts.{yes_no}
 use Rattle.stored.specs.CutTables.{IsEdge, IsEmptiedInPart}
+use Rattle.stored_survey.proofs.RowsHeld.{nothing_taken as take_nothing}
 use Rattle.stored_survey.specs.Parts.{IsSlotEnd}
 use Rattle.stored_mend.proofs.PutOver.{are_zeros, drop_joined, zeros_are}
 use Rattle.stored_mend.proofs.SlotShape.{length-attribute, length-flat, length-front, length-name, slot_front, slot_rest, slot_shape}
@@ -118,10 +119,6 @@ count_there schema e =
     let front : length (slot_front schema ++ zeros) ≡ 160 = length-append (slot_front schema) zeros ∙ omega (arith, length-front schema e, length-replicate {A = ℕ} (144 - 18 * n) 0, e.1) in
     ap (λ (ys : List ℕ). slice_index ys 160) (slot_shape schema e ∙ sym (append_assoc (slot_front schema) zeros tail))
     ∙ subst (λ (m : ℕ). slice_index ((slot_front schema ++ zeros) ++ tail) m ≡ n) (omega (arith, front)) (get_or-append-add (slot_front schema ++ zeros) tail 0 0)
-
-take_nothing : (n : ℕ) → take {A = ℕ} n [] ≡ []
-take_nothing zero = refl
-take_nothing (suc n) = refl
 
 drop_taken : (h n : ℕ) (xs : List ℕ) → drop h (take n xs) ≡ take (n - h) (drop h xs)
 drop_taken zero n xs = let e : n - 0 ≡ n = omega arith in ap (λ (m : ℕ). take m xs) (sym e)

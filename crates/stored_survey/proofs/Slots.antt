@@ -6,7 +6,7 @@ use Rattle.std.proofs.lemmas.Bool.{cases_lt}
 use Rattle.std.proofs.lemmas.List.{get_or_past}
 use Rattle.std.proofs.lemmas.List.FromFn.{get_or-map-range_with_len, length-map-range_with_len}
 use Rattle.afl_base.specs.Files.{Table}
-use Rattle.catalog.specs.Rules.{allows_at, breaks_index, is_behind, is_index_behind, is_index_form, is_same_place, is_sound_index, is_third_table, is_tree, stands_on}
+use Rattle.catalog.specs.Rules.{allows_at, breaks_index, is_behind, is_index_behind, is_index_form, is_same_place, is_sound_index, is_surplus_table, is_tree, stands_on}
 use Rattle.db_model.specs.declared.schemas.Attribute.{Attribute}
 use Rattle.db_model.specs.declared.schemas.IndexKind.{IndexKind}
 use Rattle.db_model.specs.declared.schemas.IndexKind.TheVariants.{Inline, MaxHeap, MemHash}
@@ -125,7 +125,7 @@ stands files i index below e sound =
     let read : index_slot_of slot ≡ Some index = sym (index_at_slot files i below) ∙ e in
     let parts = both_parts (is_index_form slot (index_slot_of slot)) (is_behind relations before (index_slot_of slot)) (not_not (is_sound_index slot relations before) sound) in
     let behind : is_index_behind relations before index ≡ true = subst (λ (o : Option Index). is_behind relations before o ≡ true) read parts.1 in
-    let three = both_parts (stands_on index (get_or relations index.relation None) && not (list_any (is_same_place index) before)) (not (is_third_table before index)) behind in
+    let three = both_parts (stands_on index (get_or relations index.relation None) && not (list_any (is_same_place index) before)) (not (is_surplus_table before index)) behind in
     let on = both_parts (stands_on index (get_or relations index.relation None)) (not (list_any (is_same_place index) before)) three.0 in
     by_relation (get_or relations index.relation None) refl on.0
   where

@@ -9,7 +9,7 @@ use Rattle.db_model.specs.Catalog.{IsAttribute, IsRelation, attribute_bytes, cat
 use Rattle.db_model.specs.Names.{is_name}
 use Rattle.padded.specs.Padded.{padded}
 use Rattle.space_model.specs.FileNames.{rows_file, tree_file}
-use Rattle.stored.specs.CutTables.{IsEdge, first_catalog, with_attribute}
+use Rattle.stored.specs.CutTables.{IsEdge, first_catalog, schema_with_attribute}
 
 -- these are the last bytes of a name's field
 abbrev pub IsNameEnd : List ℕ → List ℕ → Type 0
@@ -31,8 +31,8 @@ pub record IsSlotEnd (at : ℕ) (slot : List ℕ) (was : Schema) : Type 0 where
 -- ---- one more attribute
 
 -- the bytes of a slot up to a place lie in regions before that of the number of attributes
-abbrev pub IsApart : (k end : ℕ) → Type 0
-IsApart k end = (176 * k + end - 1) / 128 < (176 * k + 160) / 128
+abbrev pub EndsBeforeCount : (k end : ℕ) → Type 0
+EndsBeforeCount k end = (176 * k + end - 1) / 128 < (176 * k + 160) / 128
 
 -- those bytes of an attribute at the end of a relation's that lie before or behind the begin of a region, or all of them
 pub record IsMoreInPart (k : ℕ) (field : List ℕ) (schema : Schema) : Type 0 where
@@ -43,23 +43,23 @@ pub record IsMoreInPart (k : ℕ) (field : List ℕ) (schema : Schema) : Type 0 
   pub inside : (begin < upto) × (upto ≤ 18)
   pub first : (begin ≡ 0) ⊎ IsEdge k (16 + 18 * length schema.attributes + begin)
   pub last : (upto ≡ 18) ⊎ IsEdge k (16 + 18 * length schema.attributes + upto)
-  pub fits : begin ≡ 0 → upto ≡ 18 → is_schema 2 (with_attribute schema more) ≡ true
-  pub apart : IsApart k (16 + 18 * length schema.attributes + upto)
+  pub fits : begin ≡ 0 → upto ≡ 18 → is_schema 2 (schema_with_attribute schema more) ≡ true
+  pub apart : EndsBeforeCount k (16 + 18 * length schema.attributes + upto)
   pub bytes : field ≡ put_at (replicate 18 0) begin (slice_range (attribute_bytes more) begin upto)
 
 -- all of them, of an attribute that the relation may be given
 pub record IsWholeMore (field : List ℕ) (schema : Schema) : Type 0 where
   pub more : Attribute
   pub valid : IsAttribute more
-  pub fits : is_schema 2 (with_attribute schema more) ≡ true
+  pub fits : is_schema 2 (schema_with_attribute schema more) ≡ true
   pub bytes : field ≡ attribute_bytes more
 
 -- those before, or behind, a place in it
 pub record IsPartAt (k begin at : ℕ) (field : List ℕ) : Type 0 where
   pub more : Attribute
   pub valid : IsAttribute more
-  pub bytes : (IsApart k (begin + at) × (field ≡ take at (attribute_bytes more) ++ replicate (18 - at) 0))
-      ⊎ (IsApart k (begin + 18) × (field ≡ replicate at 0 ++ drop at (attribute_bytes more)))
+  pub bytes : (EndsBeforeCount k (begin + at) × (field ≡ take at (attribute_bytes more) ++ replicate (18 - at) 0))
+      ⊎ (EndsBeforeCount k (begin + 18) × (field ≡ replicate at 0 ++ drop at (attribute_bytes more)))
 
 -- ---- a catalog that was being begun
 

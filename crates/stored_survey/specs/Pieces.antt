@@ -24,7 +24,7 @@ abbrev pub IsSomeHalfDone : Table → Type 0
 IsSomeHalfDone files = (half : Half) × IsHalfDone files half
 
 -- a file is the one of a name, or there is none
-pub record IsFileAt (files : Table) (name : List ℕ) (file : Option ℕ) : Type 0 where
+pub record IsFileNamed (files : Table) (name : List ℕ) (file : Option ℕ) : Type 0 where
   pub there : is_some file ≡ is_there name files
   pub bytes : IfSome file (λ id. bytes_at files id ≡ bytes_named name files)
 
@@ -50,14 +50,14 @@ pub record IsUsedBeside (half : Half) (k : ℕ) (slot : List ℕ) (schema : Sche
 -- ---- rows
 
 -- the row in a slot has the bytes that stand there
-abbrev pub IsWritten : List Attribute → List ℕ → ℕ → Type 0
-IsWritten attributes bytes slot =
+abbrev pub IsRowWritten : List Attribute → List ℕ → ℕ → Type 0
+IsRowWritten attributes bytes slot =
     row_bytes attributes (row_at attributes bytes slot)
     ≡ slice_range bytes (row_length attributes * slot) (row_length attributes * slot + row_length attributes)
 
 -- and so have the rows of the first slots
 abbrev pub AreWritten : List Attribute → List ℕ → ℕ → Type 0
-AreWritten attributes bytes count = (slot : ℕ) → slot < count → IsWritten attributes bytes slot
+AreWritten attributes bytes count = (slot : ℕ) → slot < count → IsRowWritten attributes bytes slot
 
 -- ---- the mark
 

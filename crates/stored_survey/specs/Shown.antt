@@ -20,8 +20,8 @@ abbrev pub keys_mended : Table → Index → List ℤ
 keys_mended files index = keys index.attribute (rows_in (mended_base files) index.relation)
 
 -- the tree in a slot is that of the keys of its index
-abbrev pub HasTree : Table → ℕ → Index → Type 0
-HasTree files i index = IsTreeOf (bytes_named (tree_file i) files) (keys_mended files index)
+abbrev pub HasTreeOfKeys : Table → ℕ → Index → Type 0
+HasTreeOfKeys files i index = IsTreeOf (bytes_named (tree_file i) files) (keys_mended files index)
 
 -- ---- where nothing is
 
@@ -35,12 +35,12 @@ IsSettledSlot files k (Some schema) =
 abbrev pub IsSettledIndex : Table → ℕ → Option Index → Type 0
 IsSettledIndex files i None = is_there (tree_file i) files ≡ false
 IsSettledIndex files i (Some index) = index.kind ≡ MaxHeap
-    → (is_there (tree_file i) files ≡ true) × (is_there (rows_file index.relation) files ≡ true → HasTree files i index)
+    → (is_there (tree_file i) files ≡ true) × (is_there (rows_file index.relation) files ≡ true → HasTreeOfKeys files i index)
 
 -- ---- where something is
 
 -- the tree of an index of the relation is not that of its keys
-pub record LacksKey (files : Table) (r : ℕ) : Type 0 where
+pub record LacksSomeKey (files : Table) (r : ℕ) : Type 0 where
   pub i : ℕ
   pub below : i < 8
   pub index : Index
@@ -48,7 +48,7 @@ pub record LacksKey (files : Table) (r : ℕ) : Type 0 where
   pub kind : index.kind ≡ MaxHeap
   pub on : index.relation ≡ r
   pub there : is_there (tree_file i) files ≡ true
-  pub lacks : is_there (rows_file r) files ≡ true → HasTree files i index → ⊥
+  pub lacks : is_there (rows_file r) files ≡ true → HasTreeOfKeys files i index → ⊥
 
 -- in the files of a catalog that has all slots this is seen to be half done
 abbrev pub Shows : Table → Half → Type 0
@@ -60,7 +60,7 @@ Shows files (AddingRow k) =
     (k < 8) × (schema : Schema) × (relation files k ≡ Some schema) × (length (bytes_named (rows_file k) files) % row_length schema.attributes ≢ 0)
 Shows files (Treeless i) = (i < 8) × (is_tree (index_read files i) ≡ true) × (is_there (tree_file i) files ≡ false)
 Shows files (LoneTree i) = (i < 8) × (index_read files i ≡ None) × (is_there (tree_file i) files ≡ true)
-Shows files (AddingKey r) = LacksKey files r
+Shows files (AddingKey r) = LacksSomeKey files r
 
 -- what is seen of the slot of a relation, or of an index: its case of what is half done, or that nothing is
 abbrev pub ShowsSlot : Table → ℕ → Half → Type 0

@@ -9,7 +9,7 @@ ghost use Rattle.db_model.specs.declared.schemas.Attribute.{Attribute as AnyAttr
 ghost use Rattle.db_model.specs.Catalog.{relation_slot_bytes};
 ghost use Rattle.stored.specs.CutTables.{IsEdge, IsGrownInPart};
 ghost use Rattle.stored_mend.specs.Slots.{IsReadSlot};
-ghost use Rattle.stored_survey.specs.Parts.{IsApart, IsAttributeEnd, IsMoreInPart, IsNameFront, IsPartAt, IsWholeMore};
+ghost use Rattle.stored_survey.specs.Parts.{EndsBeforeCount, IsAttributeEnd, IsMoreInPart, IsNameFront, IsPartAt, IsWholeMore};
 
 use crate::emptied::{ATTRIBUTE_SIZE, ATTRIBUTES_AT, attribute_ended, is_edge};
 use afl_base::put_bytes;
@@ -73,7 +73,7 @@ fn is_whole_apart(slot: u16, begin: usize, field: &[u8], schema: &Schema) -> boo
     requires length { length field.now ≡ 18 }
     requires few { length schema.now.attributes < 8 }
     ensures is { is_schema 2 schema.now ≡ true
-        → Decides result (IsApart slot (begin + 18) × IsWholeMore field.now schema.now) }
+        → Decides result (EndsBeforeCount slot (begin + 18) × IsWholeMore field.now schema.now) }
 {
     if !is_apart(slot, begin + ATTRIBUTE_SIZE) {
         return false;
@@ -86,7 +86,7 @@ fn is_apart(slot: u16, end: usize) -> bool
     requires slot { slot < 8 }
     requires some { 1 ≤ end }
     requires inside { end ≤ 176 }
-    ensures is { Decides result (IsApart slot end) }
+    ensures is { Decides result (EndsBeforeCount slot end) }
 {
     let front = 176 * slot as usize;
     (front + end - 1) / 128 < (front + 160) / 128
@@ -166,7 +166,7 @@ fn is_front(slot: u16, end: usize, bytes: &[u8]) -> bool
     requires inside { end ≤ 176 }
     requires few { length bytes.now ≤ 16 }
     ensures is { Decides result
-        (IsApart slot end × ((name : List ℕ) × IsNameFront bytes.now name)) }
+        (EndsBeforeCount slot end × ((name : List ℕ) × IsNameFront bytes.now name)) }
 {
     if !is_apart(slot, end) {
         return false;
@@ -182,7 +182,7 @@ fn is_end(slot: u16, end: usize, bytes: &[u8]) -> bool
     requires least { 2 ≤ length bytes.now }
     requires most { length bytes.now ≤ 18 }
     ensures is { Decides result
-        (IsApart slot end × ((a : AnyAttribute) × IsAttributeEnd bytes.now a)) }
+        (EndsBeforeCount slot end × ((a : AnyAttribute) × IsAttributeEnd bytes.now a)) }
 {
     if !is_apart(slot, end) {
         return false;

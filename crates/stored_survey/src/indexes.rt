@@ -16,7 +16,7 @@ ghost use Rattle.stored.specs.Sound.{IsIndexComplete};
 ghost use Rattle.stored.specs.declared.half.Half.{Half as AnyHalf};
 ghost use Rattle.stored.specs.declared.half.Half.TheVariants.{AddingKey, LoneTree, Treeless};
 ghost use Rattle.stored_survey.specs.Asked.{AreSoundBeside, IsKeptBeside, IsReadAs};
-ghost use Rattle.stored_survey.specs.Pieces.{IsFileAt, IsReadIndex, NamesWithin};
+ghost use Rattle.stored_survey.specs.Pieces.{IsFileNamed, IsReadIndex, NamesWithin};
 ghost use Rattle.stored_survey.specs.Shown.{keys_mended};
 
 use crate::places::tree_at;
@@ -154,7 +154,7 @@ fn is_sound_heap<V: Files>(
     ensures kept { IsTrue (V.state files.old).tells → IsReadAs (V.state files.old).files catalog.now
         → AreSoundBeside (V.state files.old).files half.now
         → IsReadIndex (V.state files.old).files slot (index_in entry.now) → entry.now.kind ≡ OfHeap
-        → IsFileAt (V.state files.old).files (tree_file slot) tree
+        → IsFileNamed (V.state files.old).files (tree_file slot) tree
         → IfOk result (λ is. Decides is (IsKeptBeside (V.state files.old).files half.now slot)) }
     ensures frame { OnlyReads V.state V.lent V.reads V.faults files.old files.new result }
 {

@@ -7,7 +7,7 @@ ghost use Rattle.std.specs.Bool.{Decides};
 ghost use Rattle.afl_base.specs.Files.{IsLive, bytes_at, size_at};
 ghost use Rattle.afl_base.specs.Keeping.{OnlyReads};
 ghost use Rattle.db_model.specs.Row.{row_length};
-ghost use Rattle.stored_survey.specs.Pieces.{AreWritten, IsWritten};
+ghost use Rattle.stored_survey.specs.Pieces.{AreWritten, IsRowWritten};
 
 use afl_base::{Failed, FileId, Files};
 use db_model::{Attributes, row_length};
@@ -51,7 +51,7 @@ fn holds_row<V: Files>(
     requires few { slot < 32768 }
     ensures written { let bytes = bytes_at (V.state files.old).files file in
         IsTrue (V.state files.old).tells → IfOk result
-        (λ holds. Decides holds (IsWritten attributes.now bytes slot)) }
+        (λ holds. Decides holds (IsRowWritten attributes.now bytes slot)) }
     ensures frame { OnlyReads V.state V.lent V.reads V.faults files.old files.new result }
 {
     let mut bytes = [0; 128];

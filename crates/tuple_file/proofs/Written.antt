@@ -12,7 +12,7 @@ use Rattle.db_model.proofs.Decoded.{length-row_read}
 use Rattle.db_model.proofs.Rows.{rows_of-insert, slot_inside}
 use Rattle.afl_base.specs.Files.{State, bytes_at}
 use Rattle.tuple_file.specs.declared.tuples.Tuples.{Tuples}
-use Rattle.tuple_file.specs.Tuples.{HoldsRows, row, slot_bytes, slots}
+use Rattle.tuple_file.specs.Tuples.{HoldsRows, row, row_slot_bytes, slots}
 use Rattle.tuple_file.proofs.Slots.{length-rows, slots_of_whole}
 use Rattle.std.proofs.lemmas.Grind.{common_steps}
 use Rattle.padded.proofs.Facts.{drop_item}
@@ -135,7 +135,7 @@ written_insert attributes row n bytes long suit all = grind (arith, common_steps
 
 -- the bytes of each slot of a relation's file are those of its row
 pub written_slot : (state : State) (tuples : Tuples) (slot : ℕ) → HoldsRows state tuples → IsTrue state.tells → slot < slots state.files tuples
-    → row_bytes tuples.schema.attributes (row state.files tuples slot) ≡ slot_bytes state.files tuples slot
+    → row_bytes tuples.schema.attributes (row state.files tuples slot) ≡ row_slot_bytes state.files tuples slot
 written_slot state tuples slot holds told below =
     let attributes = tuples.schema.attributes in
     let bytes = bytes_at state.files tuples.file in

@@ -10,8 +10,8 @@ abbrev pub IsZeroDraft : State → ℕ → Type 0
 IsZeroDraft state size = (draft_in state).bytes ≡ replicate size 0
 
 -- it reaches as far as the slot
-abbrev pub HasSlot : State → Tuples → ℕ → Type 0
-HasSlot state tuples slot =
+abbrev pub ReachesSlot : State → Tuples → ℕ → Type 0
+ReachesSlot state tuples slot =
     row_length tuples.schema.attributes * slot + row_length tuples.schema.attributes ≤ length (draft_in state).bytes
 
 -- a row is put into the slot of such bytes, and all others stay

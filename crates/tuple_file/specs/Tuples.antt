@@ -64,8 +64,8 @@ IsInFile files tuples slot =
     row_length tuples.schema.attributes * slot + row_length tuples.schema.attributes ≤ size_at files tuples.file
 
 -- the bytes of the row in a slot
-abbrev pub slot_bytes : Table → Tuples → ℕ → List ℕ
-slot_bytes files tuples slot =
+abbrev pub row_slot_bytes : Table → Tuples → ℕ → List ℕ
+row_slot_bytes files tuples slot =
     slice_range (bytes_at files tuples.file) (row_length tuples.schema.attributes * slot)
     (row_length tuples.schema.attributes * slot + row_length tuples.schema.attributes)
 

@@ -11,7 +11,7 @@ ghost use Rattle.afl_base.specs.Files.{Commits, Drafts, IsLive, Keeps, draft_in,
 ghost use Rattle.afl_base.specs.Fit.{fit};
 ghost use Rattle.db_model.specs.Row.{AllRowsSuit, AllSuit, Row, row_bytes, row_length, row_of, rows_bytes, tuple_of};
 ghost use Rattle.tuple_file.specs.CutRows.{HasWholeRows};
-ghost use Rattle.tuple_file.specs.Drafts.{HasSlot, IsZeroDraft, PutsRow};
+ghost use Rattle.tuple_file.specs.Drafts.{ReachesSlot, IsZeroDraft, PutsRow};
 ghost use Rattle.tuple_file.specs.Gathered.{IsFree, TakesRows, end_of_waiting, gathered};
 ghost use Rattle.tuple_file.specs.Tuples.{AreAnswered, HoldsRows, IsAnswered, IsLiveTuple, IsRowFile, OfBytes, OnlyDraftChanges, OnlyRowsChange, live_rows, row, rows, slots};
 
@@ -129,7 +129,7 @@ impl Tuples {
             → IsLiveTuple (V.state files.old).files self.now (tuple_of attributes bytes.now))
             → F.pre removed.now bytes }
         requires takes { TakesRows (V.state files.old) waiting.old }
-        requires range { HasSlot (V.state files.old) self.now slot }
+        requires range { ReachesSlot (V.state files.old) self.now slot }
         requires behind { end_of_waiting waiting.old ≡ row_length self.now.schema.attributes * slot }
         ensures row { IsTrue (V.state files.old).tells
             → OnOk result ((new : Row)

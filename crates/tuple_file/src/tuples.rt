@@ -12,7 +12,7 @@ ghost use Rattle.db_model.specs.Row.{AllSuit, fields_length, row_bytes, row_leng
 ghost use Rattle.db_model.specs.Step.{key_of as key_of_value, slots_limit};
 ghost use Rattle.tuple_file.specs.Column.{IsNumber, column_of};
 ghost use Rattle.tuple_file.specs.CutRows.{MayAppendRow, MayMarkRow};
-ghost use Rattle.tuple_file.specs.Tuples.{AppendsRow, AreRows, HoldsRows, IsInFile, IsRowFile, MarksRow, row, rows, slot_bytes, slots};
+ghost use Rattle.tuple_file.specs.Tuples.{AppendsRow, AreRows, HoldsRows, IsInFile, IsRowFile, MarksRow, row, rows, row_slot_bytes, slots};
 
 use crate::rows::{are_rows, get_tuple, is_live, put_row};
 use afl_base::{Failed, FileId, Files, KeyColumn, MOST_SLOTS, SlotNo};
@@ -98,7 +98,7 @@ impl Tuples {
         requires slot { slot < slots (V.state files.old).files self.now }
         requires size { length into.old ≡ row_length self.now.schema.attributes }
         ensures bytes { IsTrue (V.state files.old).tells
-            → OnOk result (into.new ≡ slot_bytes (V.state files.old).files self.now slot) }
+            → OnOk result (into.new ≡ row_slot_bytes (V.state files.old).files self.now slot) }
         ensures size { length into.new ≡ length into.old }
         ensures reads { V.reads files.new ≤ V.reads files.old + 6 }
         ensures frame { OnlyReads V.state V.lent V.reads V.faults files.old files.new result }
@@ -143,7 +143,7 @@ impl Tuples {
         requires range { IsInFile (V.state files.old).files self.now slot }
         requires slot { slot < 32768 }
         ensures bytes { IsTrue (V.state files.old).tells
-            → OnOk result (into.new ≡ slot_bytes (V.state files.old).files self.now slot) }
+            → OnOk result (into.new ≡ row_slot_bytes (V.state files.old).files self.now slot) }
         ensures reads { V.reads files.new ≤ V.reads files.old + 6 }
         ensures frame { OnlyReads V.state V.lent V.reads V.faults files.old files.new result }
     {
@@ -299,7 +299,7 @@ impl Tuples {
         ensures valid { IsTrue (V.state files.old).tells
             → IfOk result (λ valid. IsTrue valid ↔ ((k : ℕ) → k < count
             → row_bytes self.now.schema.attributes (row (V.state files.old).files self.now (slot + k))
-            ≡ slot_bytes (V.state files.old).files self.now (slot + k))) }
+            ≡ row_slot_bytes (V.state files.old).files self.now (slot + k))) }
         ensures reads { V.reads files.new ≤ V.reads files.old + 6 * count }
         ensures frame { OnlyReads V.state V.lent V.reads V.faults files.old files.new result }
     {

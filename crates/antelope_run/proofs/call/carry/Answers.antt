@@ -1,6 +1,7 @@
 use Rattle.std.proofs.Common.{rules}
 use Rattle.run_model.specs.Runs.{world}
-use Rattle.antelope_run.specs.Promise.{CausedBy, IsRun, counted, moment}
+use Rattle.antelope_run.specs.Promise.{CausedBy, KeepsPromise}
+use Rattle.run_model.specs.Moments.{counts_of, moment}
 use Rattle.antelope_run.proofs.Outcomes.{broken_at, caused_by, no_fault_by, suffices_by, taken_by, unsound_at}
 use Rattle.antelope_run.proofs.call.carry.Goals as goal
 
@@ -12,9 +13,9 @@ returns-clause-runs g c = λ told.
     let is = c.status.ensures in
     let old = world (g.F.Flash.image c.args.flash.now) (g.S.Source.left c.args.input.now) (g.K.Sink.held c.args.out.now) in
     let new = world (g.F.Flash.image ran.result.flash.now) (g.S.Source.left ran.new.input) (g.K.Sink.held ran.new.out) in
-    let counts = counted g.F.Flash g.S.Source g.K.Sink c.args.flash.now c.args.input.now c.args.out.now in
-    let counts_now = counted g.F.Flash g.S.Source g.K.Sink ran.result.flash.now ran.new.input ran.new.out in
-    let is_run : IsRun c.args.form g.F.Flash.cuts c.status.result (moment g.F.Flash g.S.Source g.K.Sink c.args.flash.now c.args.input.now c.args.out.now)
+    let counts = counts_of g.F.Flash g.S.Source g.K.Sink c.args.flash.now c.args.input.now c.args.out.now in
+    let counts_now = counts_of g.F.Flash g.S.Source g.K.Sink ran.result.flash.now ran.new.input ran.new.out in
+    let is_run : KeepsPromise c.args.form g.F.Flash.cuts c.status.result (moment g.F.Flash g.S.Source g.K.Sink c.args.flash.now c.args.input.now c.args.out.now)
     (moment g.F.Flash g.S.Source g.K.Sink ran.result.flash.now ran.new.input ran.new.out) = record {
       told = record { came = came; is = is; left = e.comes told };
       broken_off = λ cuts. broken_at c.args.form came old new (e.comes told) c.status.result is (e.broken told cuts);
@@ -28,8 +29,8 @@ returns-clause-runs g c = λ told.
 pub returns-clause-caused : goal.returns-clause-caused
 returns-clause-caused g c =
     let ran = c.run_form-handed in
-    let counts = counted g.F.Flash g.S.Source g.K.Sink c.args.flash.now c.args.input.now c.args.out.now in
-    let counts_now = counted g.F.Flash g.S.Source g.K.Sink ran.result.flash.now ran.new.input ran.new.out in
+    let counts = counts_of g.F.Flash g.S.Source g.K.Sink c.args.flash.now c.args.input.now c.args.out.now in
+    let counts_now = counts_of g.F.Flash g.S.Source g.K.Sink ran.result.flash.now ran.new.input ran.new.out in
     let caused : CausedBy c.status.result counts counts_now = caused_by ran.new.came counts counts_now ran.ensures.cause c.status.result c.status.ensures in
     search (rules, caused)
 

@@ -11,4 +11,4 @@ pub returns-then-is_doubled : goal.returns-then-is_doubled
 returns-then-is_doubled c = sym (and_left _ _ (false_right _ _ (ap not (sym c.if-is_doubled.ensures))))
 
 pub returns : goal.returns
-returns c = ap not c.is_third_table.ensures ∙ sym (and_last _ _ _ c.if-not-stands_on.ensures c.if-is_doubled.ensures)
+returns c = ap not c.is_surplus_table.ensures ∙ sym (and_last _ _ _ c.if-not-stands_on.ensures c.if-is_doubled.ensures)

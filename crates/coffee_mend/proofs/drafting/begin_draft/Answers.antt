@@ -7,7 +7,7 @@ use Rattle.coffee_merge.specs.Holding.{Entries}
 use Rattle.coffee_mend.proofs.HiddenCollections.{hidden_tiled}
 use Rattle.coffee_mend.proofs.HiddenDrafts.{LeavesUnits, collection_mends, draft_shown, files_left, header_mends, units_left}
 use Rattle.coffee_mend.proofs.Joins.{space_on}
-use Rattle.coffee_mend.specs.Joined.{HidesRecord, LeavesFiles}
+use Rattle.coffee_mend.specs.Joined.{HidesRecord, LeavesTable}
 use Rattle.coffee_mend.proofs.drafting.begin_draft.Goals as goal
 
 pub returns-clause-begun : goal.returns-clause-begun
@@ -26,7 +26,7 @@ returns-in_err-page-clause-left g c = λ t.
     let mid = g.F.Flash.image c.obtain.new.flash in
     let said = err_from_is_err_and c.from_residual.result c.from_residual.ensures.1 in
     space_on c.obtain.result c.from_residual.result c.in_err-page.field-0.0 (λ need. LeavesUnits (g.F.Flash.image c.args.flash.now) (g.F.Flash.image c.obtain.new.flash) need)
-    (λ need. (table : Entries) (i place : ℕ) → HidesRecord old table None i c.args.file.now place → LeavesFiles (zeros_at old place 128) (zeros_at mid place 128) table need)
+    (λ need. (table : Entries) (i place : ℕ) → HidesRecord old table None i c.args.file.now place → LeavesTable (zeros_at old place 128) (zeros_at mid place 128) table need)
     c.in_err-page.was (said.1 ∙ ap (λ e. Err e) said.2)
     (λ need l table i place r. files_left old mid place table i c.args.file.now r c.obtain.ensures.frame.size need l)
     (units_left c.obtain.result old mid (c.obtain.ensures.kept t) (c.obtain.ensures.cramped t))

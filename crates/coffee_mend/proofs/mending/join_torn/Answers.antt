@@ -5,7 +5,7 @@ use Rattle.coffee_merge.specs.Holding.{Entries}
 use Rattle.coffee_mend.proofs.Mends.{failed_more, shown_like, shown_sound, space_known, space_more}
 use Rattle.coffee_mend.proofs.Supersedings.{record_fits}
 use Rattle.coffee_mend.proofs.TornOwners.{torn_by, torn_left}
-use Rattle.coffee_mend.specs.Joined.{HidesRecord, LeavesFiles}
+use Rattle.coffee_mend.specs.Joined.{HidesRecord, LeavesTable}
 use Rattle.coffee_mend.specs.Mended.{IsSoundAs, MendsLike}
 use Rattle.coffee_mend.proofs.mending.join_torn.Goals as goal
 
@@ -28,7 +28,7 @@ returns-clause-space g c = λ told of.
     let inside = record_fits (length old) r c.requires.torn in
     space_more _ _ c.came_of.result (λ need is.
     torn_left old old new r.log r.place c.sectors.result c.args.file.now refl c.sectors.ensures.size (omega (arith, c.sectors.ensures.most)) inside of.torn of.owner need c.join_file.ensures.frame.size
-    (space_known c.join_file.result need (λ n. (table : Entries) (i at : ℕ) → HidesRecord old table None i c.args.file.now at → LeavesFiles (zeros_at old at 128) (zeros_at new at 128) table n) is (c.join_file.ensures.left told))
+    (space_known c.join_file.result need (λ n. (table : Entries) (i at : ℕ) → HidesRecord old table None i c.args.file.now at → LeavesTable (zeros_at old at 128) (zeros_at new at 128) table n) is (c.join_file.ensures.left told))
     (space_known c.join_file.result need (λ n. n ≡ c.args.file.now.pages) is c.join_file.ensures.need)) c.came_of.ensures.lacking
 
 pub returns-clause-cut : goal.returns-clause-cut

@@ -1,7 +1,7 @@
 use Rattle.std.proofs.Common.{◌≡◌, ◌*◌, None}
 use Rattle.afl_base.specs.declared.kind.Kind.TheVariants.{Doubling}
 use Rattle.afl_base.specs.Files.{IsLive, file_at, place, size_at}
-use Rattle.database_tests.specs.Standing.{LeavesFiles}
+use Rattle.database_tests.specs.Standing.{KeepsEachFile}
 use Rattle.database_tests.proofs.between.grow_another.Given as goal
 
 abbrev pub invariant-loop-turn : goal.invariant-loop-turn
@@ -11,5 +11,5 @@ invariant-loop-turn g l = record {
   size : size_at (g.V.Files.state l.files).files l.id ≡ 1000 * l.turn;
   idle : (g.V.Files.state l.files).draft ≡ None;
   none : place (g.V.Files.state l.fn.files).files l.id ≡ None;
-  keeps : LeavesFiles (g.V.Files.state l.fn.files) (g.V.Files.state l.files);
+  keeps : KeepsEachFile (g.V.Files.state l.fn.files) (g.V.Files.state l.files);
 }

@@ -1,6 +1,6 @@
 use Rattle.std.proofs.Common.{arith, ◌∙◌}
 use Rattle.afl_base.specs.Files.{bytes_at}
-use Rattle.index_tree.specs.TreeFile.{place_of}
+use Rattle.index_tree.specs.TreeFile.{numbered_place}
 use Rattle.index_maxheap.proofs.Opening.{next_part}
 use Rattle.index_maxheap.proofs.Walked.{looked}
 use Rattle.index_maxheap.proofs.ends.look_at.Goals as goal
@@ -20,4 +20,4 @@ returns-clause-looks g c = λ told rest bucket.
 pub returns-clause-onward : goal.returns-clause-onward
 returns-clause-onward g c = λ told.
     let bytes = bytes_at (g.V.Files.state c.args.files.now).files c.args.index in
-    c.get_u16-next.ensures ∙ next_part bytes c.read_bucket.new.into (place_of c.args.number) (c.in_ok-read_bucket.ensures.bytes told)
+    c.get_u16-next.ensures ∙ next_part bytes c.read_bucket.new.into (numbered_place c.args.number) (c.in_ok-read_bucket.ensures.bytes told)

@@ -2,7 +2,7 @@ use Rattle.std.proofs.Common.{◌≡◌, ◌≤◌, ◌+◌, ◌*◌, ℕ, get_o
 use Rattle.std.specs.Prelude.{IsTrue}
 use Rattle.afl_base.specs.KeyColumn.{key_of}
 use Rattle.db_model.specs.HashTree.{buckets}
-use Rattle.index_tree.specs.Loads.{Counts}
+use Rattle.index_tree.specs.Loads.{CountsPairs}
 use Rattle.index_tree.specs.Pairs.{pair_keys, pairs_of}
 use Rattle.index_maxheap.specs.Builds.{AreLoads}
 use Rattle.index_maxheap.proofs.loads.buckets_for.Given as goal
@@ -19,5 +19,5 @@ invariant-loop-slot g l =
       few : (i : ℕ) → get_or l.loads i 0 ≤ l.slot;
       opened : l.buckets ≤ l.slot;
       kept : AreLoads l.loads l.slot l.buckets;
-      counts : IsTrue (g.V.Files.state l.fn.files).tells → Counts l.loads ps × (l.buckets ≡ buckets (pair_keys ps));
+      counts : IsTrue (g.V.Files.state l.fn.files).tells → CountsPairs l.loads ps × (l.buckets ≡ buckets (pair_keys ps));
     }

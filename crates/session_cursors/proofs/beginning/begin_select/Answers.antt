@@ -7,7 +7,7 @@ use Rattle.db_model.specs.Plan.{plan, ranges_of}
 use Rattle.index_set.specs.declared.info.IndexInfo.{IndexInfo}
 use Rattle.index_set.specs.Complete.{AreIndexesOf, AreReadable}
 use Rattle.index_set.specs.Plans.{kinds, slots_passed}
-use Rattle.index_set.specs.Walks.{Fits, IsChosen, ahead, walk_of}
+use Rattle.index_set.specs.Walks.{Fits, IsChosen, ahead, walk_of_search}
 use Rattle.cursor.specs.Remaining.{AreOnNumbers, remaining, selected_slots, slots_to_answer}
 use Rattle.lvm.specs.Code.{IsCodeOf}
 use Rattle.tuple_file.specs.declared.tuples.Tuples.{Tuples}
@@ -67,7 +67,7 @@ returns-clause-ahead g c = λ told condition code.
     let P : Tuples → List IndexInfo → Type 0 = λ z l. (d : Option Cond) → IsCodeOf z.schema.attributes d c.args.plan.code → AreIndexesOf state tables (rows state.files z) l
     → ahead cursor.candidates (rows state.files z) ≡ slots_passed (kinds l) (ranges_of z.schema.attributes d) (length (rows state.files z)) (rows state.files z) in
     let Q : Tuples → List IndexInfo → Type 0 = λ z l. (d : Option Cond) → IsCodeOf z.schema.attributes d c.args.plan.code
-    → walk_of cursor.candidates.search ≡ model.walk_of (kinds l) (plan (kinds l) (ranges_of z.schema.attributes d)) in
+    → walk_of_search cursor.candidates.search ≡ model.walk_of (kinds l) (plan (kinds l) (ranges_of z.schema.attributes d)) in
     select_begun state.files (record { cursor = cursor; places = c.args.plan.places }) t (infos_of c.args.k t c.args.held.now.indexes) condition (h.begun.tuples ∙ e1)
     (moved Q e1 e2 h.walk condition code) (moved P e1 e2 (λ d code_is are. (h.begins told d code_is are).ahead) condition code indexes)
     (moved O e1 e2 (λ d code_is are. (h.begins told d code_is are).slots_left) condition code indexes)

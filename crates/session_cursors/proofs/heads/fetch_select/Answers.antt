@@ -1,7 +1,7 @@
 use Rattle.std.proofs.Common.{◌<◌, ◌≤◌, ◌+◌, List, map, length, slice_get, refl, ap, sym, subst, ◌∙◌, arith}
 use Rattle.db_model.specs.Cost.{fetch_select_cost, passed}
 use Rattle.db_model.specs.Row.{Row}
-use Rattle.index_set.specs.Walks.{ahead, walk_of}
+use Rattle.index_set.specs.Walks.{ahead, walk_of_search}
 use Rattle.cursor.specs.declared.select.SelectCursor.{SelectCursor}
 use Rattle.cursor.specs.Remaining.{remaining, slots_to_answer}
 use Rattle.tuple_file.specs.Tuples.{rows}
@@ -50,7 +50,7 @@ returns-clause-reads g c = λ told db finds.
     let before = g.V.Files.reads c.args.files.now in
     let now = g.V.Files.reads c.next.new.files in
     let some : 0 < o.cursor.candidates.slots = omega (arith, c.if-opened.false) in
-    let P : List Row → Type 0 = λ l. now ≤ before + fetch_select_cost (walk_of o.cursor.candidates.search) l (length (passed (slice_get (slots_to_answer o.cursor all) 0) (ahead o.cursor.candidates all))) in
+    let P : List Row → Type 0 = λ l. now ≤ before + fetch_select_cost (walk_of_search o.cursor.candidates.search) l (length (passed (slice_get (slots_to_answer o.cursor all) 0) (ahead o.cursor.candidates all))) in
     let yields = h.yields told fits in
     let advances = h.advances in
     subst P (sym (finds some))
@@ -65,5 +65,5 @@ returns-in_err-found-clause-reads g c = λ told db finds.
     let before = g.V.Files.reads c.args.files.now in
     let now = g.V.Files.reads c.next.new.files in
     let some : 0 < o.cursor.candidates.slots = omega (arith, c.if-opened.false) in
-    let P : List Row → Type 0 = λ l. now ≤ before + fetch_select_cost (walk_of o.cursor.candidates.search) l (length (passed (slice_get (slots_to_answer o.cursor all) 0) (ahead o.cursor.candidates all))) in
+    let P : List Row → Type 0 = λ l. now ≤ before + fetch_select_cost (walk_of_search o.cursor.candidates.search) l (length (passed (slice_get (slots_to_answer o.cursor all) 0) (ahead o.cursor.candidates all))) in
     subst P (sym (finds some)) (read_failed o.cursor all before now c.requires.can.rests (c.in_err-found.ensures.reads_failed told (c.requires.can.fits told)))

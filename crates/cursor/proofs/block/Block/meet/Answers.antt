@@ -1,6 +1,6 @@
 use Rattle.std.proofs.Common.{◌≡◌, ◌∙◌, ℕ, Some, ap, subst, sym}
 use Rattle.cursor.specs.declared.block.Block.{Block}
-use Rattle.cursor.specs.Blocks.{LiesIn, number_held}
+use Rattle.cursor.specs.Blocks.{LiesBetween, number_held}
 use Rattle.cursor.proofs.Blocks.{up_to}
 use Rattle.cursor.proofs.block.Block.meet.Goals as goal
 
@@ -12,7 +12,7 @@ loop-nth-preserved c =
       kept = c.note.ensures.kept ∙ ap (λ (b : Block). record b { firsts = new.firsts; ends = new.ends }) inv.kept;
       widens = λ k s old. c.note.ensures.widens k s (inv.widens k s old);
       meets = λ k less is.
-          up_to (λ (n : ℕ). number_held c.args.self.now n ≡ Some c.args.number.now → LiesIn new n c.args.slot) c.loop-nth.nth k
+          up_to (λ (n : ℕ). number_held c.args.self.now n ≡ Some c.args.number.now → LiesBetween new n c.args.slot) c.loop-nth.nth k
           (λ before held. c.note.ensures.widens k c.args.slot (inv.meets k before held))
           (λ held. rw c.from.ensures at (c.note.ensures.notes (rw c.from.ensures (ap (λ (b : Block). number_held b c.loop-nth.nth) inv.kept ∙ held))))
           less is;

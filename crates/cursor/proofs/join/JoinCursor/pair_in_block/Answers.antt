@@ -1,7 +1,7 @@
 use Rattle.std.proofs.Common.{◌≡◌, ◌+◌, ◌-◌, ◌*◌, ◌≤◌, Some, None, arith}
 use Rattle.padded.proofs.Facts.{on_err}
 use Rattle.tuple_file.specs.Tuples.{rows}
-use Rattle.cursor.specs.Blocks.{HasRead, cost_in_blocks}
+use Rattle.cursor.specs.Blocks.{HasMetRights, cost_in_blocks}
 use Rattle.cursor.proofs.BlockPairs.{block_pairs, fault_paid, left_fault, left_read, lefts_there, none_paid, rights_there, row_paid, some_paid}
 use Rattle.cursor.proofs.join.JoinCursor.pair_in_block.Goals as goal
 
@@ -17,7 +17,7 @@ returns-in_err-slot-clause-reads_err g c = λ told.
     let r0 = g.V.Files.reads c.args.files.now in
     let r1 = g.V.Files.reads c.partner.new.files in
     let h = c.in_err-slot.ensures in
-    let most : HasRead b k lefts rights → r1 ≤ r0 + cost_in_blocks b k lefts rights =
+    let most : HasMetRights b k lefts rights → r1 ≤ r0 + cost_in_blocks b k lefts rights =
     λ read. fault_paid b k lefts rights c.requires.block read c.requires.here c.requires.inside many few r0 r1 (row_paid b k lefts rights c.requires.block read c.requires.here c.requires.inside many few r0 r1 h.unread h.reads) in
     on_err _ most
 
@@ -33,7 +33,7 @@ returns-in_err-number_in-in-Some-clause-reads_err g c = λ told.
     let r0 = g.V.Files.reads c.args.files.now in
     let r1 = g.V.Files.reads c.partner.new.files in
     let r2 = g.V.Files.reads c.number_in.new.files in
-    let most : HasRead b k lefts rights → r2 ≤ r0 + cost_in_blocks b k lefts rights =
+    let most : HasMetRights b k lefts rights → r2 ≤ r0 + cost_in_blocks b k lefts rights =
     λ read.
     let finds = (rw c.in-Some.is at c.in_ok-slot.ensures.finds) told read.met in
     let below = rw c.in-Some.is at c.in_ok-slot.ensures.below in

@@ -3,7 +3,7 @@ use Rattle.std.proofs.Math.Logic.{⊎_elim}
 use Rattle.std.proofs.lemmas.Bool.{cases_lt}
 use Rattle.afl_base.specs.Files.{bytes_at}
 use Rattle.db_model.specs.Row.{row_bytes, row_length}
-use Rattle.tuple_file.specs.Tuples.{row, slot_bytes}
+use Rattle.tuple_file.specs.Tuples.{row, row_slot_bytes}
 use Rattle.tuple_file.proofs.Written.{written_each, written_first, written_from}
 use Rattle.tuple_file.proofs.tuples.Tuples.are_rows.Goals as goal
 use Rattle.std.proofs.lemmas.Grind.{common_steps}
@@ -38,7 +38,7 @@ loop-slot-preserved g c =
           (λ (before : k < slot). inv.each told k before)
           (λ (from : slot ≤ k).
           let place : slot + (k - slot) ≡ k = omega (arith, from) in
-          subst (λ (n : ℕ). row_bytes attributes (row files c.args.self.now n) ≡ slot_bytes files c.args.self.now n) place
+          subst (λ (n : ℕ). row_bytes attributes (row files c.args.self.now n) ≡ row_slot_bytes files c.args.self.now n) place
           (judged.0 c.if-not-branch.false (k - slot) (omega (arith, from, below))))
           (cases_lt k slot);
     }

@@ -2,7 +2,7 @@ use Rattle.std.proofs.Common.{◌≡◌, ◌*◌, ◌∙◌, refl, ap, sym, subs
 use Rattle.afl_base.specs.Fields.{put_at}
 use Rattle.db_model.specs.Row.{AllSuit, row_bytes, row_length, row_of, tuple_of}
 use Rattle.tuple_file.specs.Gathered.{gathered}
-use Rattle.tuple_file.specs.Tuples.{slot_bytes}
+use Rattle.tuple_file.specs.Tuples.{row_slot_bytes}
 use Rattle.tuple_file.proofs.Written.{written_slot}
 use Rattle.tuple_file.proofs.tuples.Tuples.draft_if_live.Goals as goal
 
@@ -11,7 +11,7 @@ returns-clause-live g c told few live =
     let state = g.V.Files.state c.args.files.now in
     let attributes = c.args.self.now.schema.attributes in
     let drafted = gathered state c.args.waiting.now in
-    let bytes = slot_bytes state.files c.args.self.now c.args.slot in
+    let bytes = row_slot_bytes state.files c.args.self.now c.args.slot in
     let read : c.read.new.into ≡ bytes = c.in_ok-read.ensures.bytes told in
     let written : row_bytes attributes (row_of attributes bytes) ≡ bytes = written_slot state c.args.self.now c.args.slot c.requires.holds told c.requires.slot in (
       refl,
