@@ -12,7 +12,7 @@ ghost use Rattle.coffee_log.specs.Logs.{AddsRecords, IsLog};
 
 use crate::records::log_put;
 use afl_base::{Failed, Flash, PageId, get_u16, put_bytes};
-use coffee_layout::{last_record, read_table, region_place};
+use coffee_layout::{FileAt, last_record, read_table, region_place};
 use flash_range::{program_range, read_range};
 
 /// Fills `into` with the content of a file from byte `at` on, by the first page of its extent and that
@@ -207,143 +207,133 @@ fn read_part<F: Flash>(
     Ok(())
 }
 
-/// Writes over content of a file with a log that has `used` records in use: one record more for each
-/// region that the range touches. Answers the records then in use. The file has the bytes from byte
-/// `at` on, and all else stays. At most 3 reads for each of these regions.
+/// Writes over content of a file with a log: one record more for each region that the range touches.
+/// Answers the records then in use. The file has the bytes from byte `at` on, and all else stays. At most
+/// 3 reads for each of these regions.
 pub fn overwrite_file<F: Flash>(
     flash: &mut F,
-    page: PageId,
-    pages: u16,
+    file: &FileAt,
     log: PageId,
-    used: u8,
     at: u32,
     bytes: &[u8],
 ) -> Result<u8, Failed>
-    requires placed { page.0 + pages ≤ pages_of (F.image flash.old) }
+    requires placed { file.now.page.0 + file.now.pages ≤ pages_of (F.image flash.old) }
     requires log { log.0 + 16 ≤ pages_of (F.image flash.old) }
-    requires free { used + regions at (length bytes.now) ≤ 30 }
+    requires free { file.now.used + regions at (length bytes.now) ≤ 30 }
     requires region { at + length bytes.now ≤ 8388480 }
-    requires fits { at + length bytes.now + 32 ≤ 256 * pages }
-    ensures used { IfOk result (λ n. n ≡ used + regions at (length bytes.now)) }
+    requires fits { at + length bytes.now + 32 ≤ 256 * file.now.pages }
+    ensures used { IfOk result (λ n. n ≡ file.now.used + regions at (length bytes.now)) }
     ensures becomes { IsTrue F.tells → IfOk result
-        (λ n. (size : ℕ) → IsFile (F.image flash.old) page.0 pages (Some log) used size
-        → at + length bytes.now ≤ size → size + 32 ≤ 256 * pages
-        → FileBecomes (F.image flash.old) (F.image flash.new) page.0 pages (Some log) n size at bytes.now) }
-    ensures adds { IsTrue F.tells → IfOk result (λ n. IsLog (F.image flash.old) log.0 used
-        → AddsRecords (F.image flash.old) (F.image flash.new) log.0 used n (at / 128) (256 * pages - 32)) }
+        (λ n. (size : ℕ)
+        → IsFile (F.image flash.old) file.now.page.0 file.now.pages (Some log) file.now.used size
+        → at + length bytes.now ≤ size → size + 32 ≤ 256 * file.now.pages
+        → FileBecomes (F.image flash.old) (F.image flash.new) file.now.page.0 file.now.pages (Some log)
+        n size at bytes.now) }
+    ensures adds { IsTrue F.tells → IfOk result (λ n. IsLog (F.image flash.old) log.0 file.now.used
+        → AddsRecords (F.image flash.old) (F.image flash.new) log.0 file.now.used n (at / 128)
+        (256 * file.now.pages - 32)) }
     ensures cut { IsTrue F.tells → IsTrue F.cuts → OnErr result
-        ((size : ℕ) → IsFile (F.image flash.old) page.0 pages (Some log) used size
-        → at + length bytes.now ≤ size → size + 32 ≤ 256 * pages
-        → IsOverwriteCut (F.image flash.old) (F.image flash.new) page.0 pages (Some log) size at bytes.now) }
+        ((size : ℕ) → IsFile (F.image flash.old) file.now.page.0 file.now.pages (Some log) file.now.used size
+        → at + length bytes.now ≤ size → size + 32 ≤ 256 * file.now.pages
+        → IsOverwriteCut (F.image flash.old) (F.image flash.new) file.now.page.0 file.now.pages (Some log)
+        size at bytes.now) }
     ensures other_pages { IsTrue F.tells → (p : ℕ) → PageOutside (256 * log.0) 4096 p
         → page_bytes (F.image flash.new) p ≡ page_bytes (F.image flash.old) p }
     ensures reads { F.reads flash.new ≤ F.reads flash.old + 3 * regions at (length bytes.now) }
     ensures frame { ChangesFlash F.image F.lent F.reads F.faults flash.old flash.new result }
 {
     flash.sectors();
-    let mut records = used;
+    let mut records = file.used;
     let mut done = 0;
     while done < bytes.len() {
         let from = at + done as u32;
         let n = (bytes.len() - done).min((128 - from % 128) as usize);
-        put_part(
-            flash,
-            page,
-            pages,
-            log,
-            records,
-            from,
-            &bytes[done..done + n],
-        )?;
+        put_part(flash, file, log, records, from, &bytes[done..done + n])?;
         records += 1;
         done += n;
     }
     Ok(records)
 }
 
-/// Adds bytes to a file of `at` bytes whose log, where it has one, has `used` records in use. Where the
-/// region of byte `at` has a record, its part goes into a further record; all other bytes are programmed
-/// into the extent. Answers the records then in use. All else stays. At most 4 reads.
-pub fn append_file<F: Flash>(
-    flash: &mut F,
-    page: PageId,
-    pages: u16,
-    log: Option<PageId>,
-    used: u8,
-    at: u32,
-    bytes: &[u8],
-) -> Result<u8, Failed>
-    requires placed { page.0 + pages ≤ pages_of (F.image flash.old) }
-    requires log { LogFits (pages_of (F.image flash.old)) log }
-    requires free { (l : PageId) → log ≡ Some l → 1 ≤ length bytes.now → used < 30 }
-    requires region { at + length bytes.now ≤ 8388480 }
-    requires fits { at + length bytes.now + 32 ≤ 256 * pages }
+/// Adds bytes to a file. Where the region of the first of them has a record in a log, its part goes into a
+/// further record; all other bytes are programmed into the extent. Answers the records then in use. All
+/// else stays. At most 4 reads.
+pub fn append_file<F: Flash>(flash: &mut F, file: &FileAt, bytes: &[u8]) -> Result<u8, Failed>
+    requires placed { file.now.page.0 + file.now.pages ≤ pages_of (F.image flash.old) }
+    requires log { LogFits (pages_of (F.image flash.old)) file.now.log }
+    requires free { (l : PageId) → file.now.log ≡ Some l → 1 ≤ length bytes.now → file.now.used < 30 }
+    requires region { file.now.size + length bytes.now ≤ 8388480 }
+    requires fits { file.now.size + length bytes.now + 32 ≤ 256 * file.now.pages }
     ensures used { IsTrue F.tells → IfOk result
-        (λ n. n ≡ used + records_for (F.image flash.old) log at (length bytes.now)) }
-    ensures few { IfOk result (λ n. n ≤ used + min (length bytes.now) 1) }
-    ensures unlogged { log ≡ None → IfOk result (λ n. n ≡ used) }
+        (λ n. n ≡ file.now.used + records_for (F.image flash.old) file.now.log file.now.size (length bytes.now)) }
+    ensures few { IfOk result (λ n. n ≤ file.now.used + min (length bytes.now) 1) }
+    ensures unlogged { file.now.log ≡ None → IfOk result (λ n. n ≡ file.now.used) }
     ensures becomes { IsTrue F.tells → IfOk result
-        (λ n. IsFile (F.image flash.old) page.0 pages log used at
-        → FileBecomes (F.image flash.old) (F.image flash.new) page.0 pages log n (at + length bytes.now) at bytes.now) }
-    ensures adds { IsTrue F.tells → (l : PageId) → log ≡ Some l
-        → IfOk result (λ n. IsFile (F.image flash.old) page.0 pages log used at
-        → AddsRecords (F.image flash.old) (F.image flash.new) l.0 used n (at / 128) (256 * pages - 32)) }
+        (λ n. IsFile (F.image flash.old) file.now.page.0 file.now.pages file.now.log file.now.used file.now.size
+        → FileBecomes (F.image flash.old) (F.image flash.new) file.now.page.0 file.now.pages file.now.log n
+        (file.now.size + length bytes.now) file.now.size bytes.now) }
+    ensures adds { IsTrue F.tells → (l : PageId) → file.now.log ≡ Some l
+        → IfOk result
+        (λ n. IsFile (F.image flash.old) file.now.page.0 file.now.pages file.now.log file.now.used file.now.size
+        → AddsRecords (F.image flash.old) (F.image flash.new) l.0 file.now.used n (file.now.size / 128)
+        (256 * file.now.pages - 32)) }
     ensures cut { IsTrue F.tells → IsTrue F.cuts → OnErr result
-        (IsFile (F.image flash.old) page.0 pages log used at
-        → IsFileCut (F.image flash.old) (F.image flash.new) page.0 pages log at at bytes.now) }
+        (IsFile (F.image flash.old) file.now.page.0 file.now.pages file.now.log file.now.used file.now.size
+        → IsFileCut (F.image flash.old) (F.image flash.new) file.now.page.0 file.now.pages file.now.log
+        file.now.size file.now.size bytes.now) }
     ensures reads { F.reads flash.new ≤ F.reads flash.old + 4 }
     ensures frame { ChangesFlash F.image F.lent F.reads F.faults flash.old flash.new result }
 {
-    match log {
+    match file.log {
         None => {
-            append_plain(flash, page, at, bytes)?;
-            Ok(used)
+            append_plain(flash, file.page, file.size, bytes)?;
+            Ok(file.used)
         }
-        Some(log) => append_logged(flash, page, pages, log, used, at, bytes),
+        Some(log) => append_logged(flash, file, log, bytes),
     }
 }
 
 // The same of a file with a log.
 fn append_logged<F: Flash>(
     flash: &mut F,
-    page: PageId,
-    pages: u16,
+    file: &FileAt,
     log: PageId,
-    used: u8,
-    at: u32,
     bytes: &[u8],
 ) -> Result<u8, Failed>
-    requires placed { page.0 + pages ≤ pages_of (F.image flash.old) }
+    requires placed { file.now.page.0 + file.now.pages ≤ pages_of (F.image flash.old) }
     requires log { log.0 + 16 ≤ pages_of (F.image flash.old) }
-    requires free { 1 ≤ length bytes.now → used < 30 }
-    requires region { at + length bytes.now ≤ 8388480 }
-    requires fits { at + length bytes.now + 32 ≤ 256 * pages }
+    requires free { 1 ≤ length bytes.now → file.now.used < 30 }
+    requires region { file.now.size + length bytes.now ≤ 8388480 }
+    requires fits { file.now.size + length bytes.now + 32 ≤ 256 * file.now.pages }
     ensures used { IsTrue F.tells → IfOk result
-        (λ n. n ≡ used + records_for (F.image flash.old) (Some log) at (length bytes.now)) }
-    ensures few { IfOk result (λ n. n ≤ used + min (length bytes.now) 1) }
+        (λ n. n ≡ file.now.used + records_for (F.image flash.old) (Some log) file.now.size (length bytes.now)) }
+    ensures few { IfOk result (λ n. n ≤ file.now.used + min (length bytes.now) 1) }
     ensures becomes { IsTrue F.tells → IfOk result
-        (λ n. IsFile (F.image flash.old) page.0 pages (Some log) used at
-        → FileBecomes (F.image flash.old) (F.image flash.new) page.0 pages (Some log) n (at + length bytes.now) at bytes.now) }
+        (λ n. IsFile (F.image flash.old) file.now.page.0 file.now.pages (Some log) file.now.used file.now.size
+        → FileBecomes (F.image flash.old) (F.image flash.new) file.now.page.0 file.now.pages (Some log) n
+        (file.now.size + length bytes.now) file.now.size bytes.now) }
     ensures adds { IsTrue F.tells → IfOk result
-        (λ n. IsFile (F.image flash.old) page.0 pages (Some log) used at
-        → AddsRecords (F.image flash.old) (F.image flash.new) log.0 used n (at / 128) (256 * pages - 32)) }
+        (λ n. IsFile (F.image flash.old) file.now.page.0 file.now.pages (Some log) file.now.used file.now.size
+        → AddsRecords (F.image flash.old) (F.image flash.new) log.0 file.now.used n (file.now.size / 128)
+        (256 * file.now.pages - 32)) }
     ensures cut { IsTrue F.tells → IsTrue F.cuts → OnErr result
-        (IsFile (F.image flash.old) page.0 pages (Some log) used at
-        → IsFileCut (F.image flash.old) (F.image flash.new) page.0 pages (Some log) at at bytes.now) }
+        (IsFile (F.image flash.old) file.now.page.0 file.now.pages (Some log) file.now.used file.now.size
+        → IsFileCut (F.image flash.old) (F.image flash.new) file.now.page.0 file.now.pages (Some log)
+        file.now.size file.now.size bytes.now) }
     ensures reads { F.reads flash.new ≤ F.reads flash.old + 4 }
     ensures frame { ChangesFlash F.image F.lent F.reads F.faults flash.old flash.new result }
 {
     if bytes.is_empty() {
-        return Ok(used);
+        return Ok(file.used);
     }
-    if !is_logged(flash, log, at / 128)? {
-        append_plain(flash, page, at, bytes)?;
-        return Ok(used);
+    if !is_logged(flash, log, file.size / 128)? {
+        append_plain(flash, file.page, file.size, bytes)?;
+        return Ok(file.used);
     }
-    let n = bytes.len().min((128 - at % 128) as usize);
-    put_part(flash, page, pages, log, used, at, &bytes[..n])?;
-    append_plain(flash, page, at + n as u32, &bytes[n..])?;
-    Ok(used + 1)
+    let n = bytes.len().min((128 - file.size % 128) as usize);
+    put_part(flash, file, log, file.used, file.size, &bytes[..n])?;
+    append_plain(flash, file.page, file.size + n as u32, &bytes[n..])?;
+    Ok(file.used + 1)
 }
 
 // Whether the log has a record of a region.
@@ -393,33 +383,42 @@ fn append_plain<F: Flash>(flash: &mut F, page: PageId, at: u32, bytes: &[u8]) ->
     Ok(())
 }
 
+// The bytes of a file's extent.
+fn extent_size(file: &FileAt) -> u32
+    ensures { result ≡ 256 * file.now.pages }
+{
+    256 * u32::from(file.pages)
+}
+
 // Puts a part of one region into the file by a record more of its log, which holds the whole region.
 fn put_part<F: Flash>(
     flash: &mut F,
-    page: PageId,
-    pages: u16,
+    file: &FileAt,
     log: PageId,
     used: u8,
     at: u32,
     bytes: &[u8],
 ) -> Result<(), Failed>
-    requires placed { page.0 + pages ≤ pages_of (F.image flash.old) }
+    requires placed { file.now.page.0 + file.now.pages ≤ pages_of (F.image flash.old) }
     requires log { log.0 + 16 ≤ pages_of (F.image flash.old) }
     requires free { used < 30 }
     requires region { at < 8388480 }
     requires some { 1 ≤ length bytes.now }
     requires part { at % 128 + length bytes.now ≤ 128 }
-    requires fits { at + length bytes.now + 32 ≤ 256 * pages }
+    requires fits { at + length bytes.now + 32 ≤ 256 * file.now.pages }
     ensures becomes { IsTrue F.tells → OnOk result
-        ((size total : ℕ) → IsFile (F.image flash.old) page.0 pages (Some log) used size
-        → size ≤ total → at + length bytes.now ≤ total → total + 32 ≤ 256 * pages
-        → FileBecomes (F.image flash.old) (F.image flash.new) page.0 pages (Some log) (used + 1) total at bytes.now) }
+        ((size total : ℕ) → IsFile (F.image flash.old) file.now.page.0 file.now.pages (Some log) used size
+        → size ≤ total → at + length bytes.now ≤ total → total + 32 ≤ 256 * file.now.pages
+        → FileBecomes (F.image flash.old) (F.image flash.new) file.now.page.0 file.now.pages (Some log)
+        (used + 1) total at bytes.now) }
     ensures adds { IsTrue F.tells → OnOk result (IsLog (F.image flash.old) log.0 used
-        → AddsRecords (F.image flash.old) (F.image flash.new) log.0 used (used + 1) (at / 128) (256 * pages - 32)) }
+        → AddsRecords (F.image flash.old) (F.image flash.new) log.0 used (used + 1) (at / 128)
+        (256 * file.now.pages - 32)) }
     ensures cut { IsTrue F.tells → IsTrue F.cuts → OnErr result
-        ((size : ℕ) → IsFile (F.image flash.old) page.0 pages (Some log) used size → at ≤ size
-        → 128 * (at / 128) < size → size + 32 ≤ 256 * pages
-        → IsOverwriteCut (F.image flash.old) (F.image flash.new) page.0 pages (Some log) size at bytes.now) }
+        ((size : ℕ) → IsFile (F.image flash.old) file.now.page.0 file.now.pages (Some log) used size
+        → at ≤ size → 128 * (at / 128) < size → size + 32 ≤ 256 * file.now.pages
+        → IsOverwriteCut (F.image flash.old) (F.image flash.new) file.now.page.0 file.now.pages (Some log)
+        size at bytes.now) }
     ensures other_pages { IsTrue F.tells → (p : ℕ) → PageOutside (256 * log.0) 4096 p
         → page_bytes (F.image flash.new) p ≡ page_bytes (F.image flash.old) p }
     ensures reads { F.reads flash.new ≤ F.reads flash.old + 3 }
@@ -427,9 +426,9 @@ fn put_part<F: Flash>(
 {
     let region = at / 128;
     // The last region of an extent has 96 bytes of content. What its record holds after them is zero.
-    let len = (256 * u32::from(pages) - 32 - 128 * region).min(128);
+    let len = (extent_size(file) - 32 - 128 * region).min(128);
     let mut buffer = [0; 128];
-    load_front(flash, page, log, 128 * region, len, &mut buffer)?;
+    load_front(flash, file.page, log, 128 * region, len, &mut buffer)?;
     put_bytes(&mut buffer, (at % 128) as usize, bytes);
     log_put(flash, log, used, region as u16, &buffer)?;
     Ok(())

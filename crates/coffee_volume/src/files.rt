@@ -228,15 +228,7 @@ impl<F: Flash> Files for Volume<F> {
         let failed = self.failed;
         self.failed = true;
         self.window.clear();
-        let used = overwrite_file(
-            &mut self.flash,
-            file.page,
-            file.pages,
-            log,
-            file.used,
-            at,
-            bytes,
-        )?;
+        let used = overwrite_file(&mut self.flash, &file, log, at, bytes)?;
         let taken = u16::from(used - file.used);
         self.table[id.number() as usize] = Some(Entry {
             at: FileAt { used, ..file },
@@ -271,15 +263,7 @@ impl<F: Flash> Files for Volume<F> {
         let failed = self.failed;
         self.failed = true;
         self.window.clear();
-        let used = append_file(
-            &mut self.flash,
-            file.page,
-            file.pages,
-            file.log,
-            file.used,
-            file.size,
-            bytes,
-        )?;
+        let used = append_file(&mut self.flash, &file, bytes)?;
         let size = file.size + bytes.len() as u32;
         self.table[id.number() as usize] = Some(Entry {
             at: FileAt { size, used, ..file },

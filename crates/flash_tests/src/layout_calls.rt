@@ -2,8 +2,8 @@
 //! too, where the flash lacks what it asks for.
 
 use crate::image::{file, named};
-use afl_base::{Failed, FileError, Flash, PageId, regions};
-use coffee_layout::{Unit, next_unit};
+use afl_base::{Failed, FileError, Flash, Kind, PageId, regions};
+use coffee_layout::{FileAt, Unit, next_unit};
 use coffee_log::{append_file, log_put, log_region, log_used, overwrite_file, read_file};
 use coffee_space::{collect, find_run, obtain};
 use flash_range::{program_range, read_range};
@@ -159,21 +159,49 @@ fn overwrite<F: Flash>(flash: &mut F, at: u16, bytes: &[u8; 4]) -> Answer {
     if flash.sectors() < 4 || regions(at, 4) > 26 || at > 1_500 {
         return Answer::Failed;
     }
-    record_number(overwrite_file(flash, PageId(0), 6, LOG, 4, at, bytes))
+    // It has four records in its log.
+    let cat = FileAt {
+        name: named(b"CAT"),
+        kind: Kind::Fixed(6),
+        page: PageId(0),
+        pages: 6,
+        size: 1_472,
+        log: Some(LOG),
+        used: 4,
+    };
+    record_number(overwrite_file(flash, &cat, LOG, at, bytes))
 }
 
 fn append_to_cat<F: Flash>(flash: &mut F, bytes: &[u8; 32]) -> Answer {
     if flash.sectors() < 4 {
         return Answer::Failed;
     }
-    record_number(append_file(flash, PageId(0), 6, Some(LOG), 4, 1472, bytes))
+    let cat = FileAt {
+        name: named(b"CAT"),
+        kind: Kind::Fixed(6),
+        page: PageId(0),
+        pages: 6,
+        size: 1_472,
+        log: Some(LOG),
+        used: 4,
+    };
+    record_number(append_file(flash, &cat, bytes))
 }
 
 fn append_to_t0<F: Flash>(flash: &mut F, bytes: &[u8; 2]) -> Answer {
     if flash.sectors() < 4 {
         return Answer::Failed;
     }
-    record_number(append_file(flash, PageId(6), 16, None, 0, 10, bytes))
+    let t0 = FileAt {
+        name: named(b"T0"),
+        kind: Kind::Doubling,
+        page: PageId(6),
+        pages: 16,
+        size: 10,
+        log: None,
+        used: 0,
+    };
+    record_number(append_file(flash, &t0, bytes))
 }
 
 fn read_cat<F: Flash>(flash: &mut F, at: u16, bytes: &[u8]) -> Answer {

@@ -12,20 +12,20 @@ use Rattle.coffee_log.proofs.contents.put_part.Goals as goal
 
 pub returns-clause-becomes : goal.returns-clause-becomes
 returns-clause-becomes g c = λ t size total is grows ends fits.
-    part_becomes (g.F.Flash.image c.args.flash.now) (g.F.Flash.image c.load_front.new.flash) (g.F.Flash.image c.log_put.new.flash) c.put_bytes.new.bytes c.args.bytes.now c.args.page.0 c.args.pages c.args.log c.args.used size total c.args.at _ is
+    part_becomes (g.F.Flash.image c.args.flash.now) (g.F.Flash.image c.load_front.new.flash) (g.F.Flash.image c.log_put.new.flash) c.put_bytes.new.bytes c.args.bytes.now c.args.file.now.page.0 c.args.file.now.pages c.args.log c.args.used size total c.args.at _ is
     c.in_ok-load_front.ensures.frame.same (omega arith) (c.in_ok-log_put.ensures.put t) (omega arith) (omega arith) grows ends fits
     (λ k low within out. put_outside c.load_front.new.buffer c.put_bytes.new.bytes c.args.bytes.now _ k c.put_bytes.ensures (omega arith) (λ a b. out (omega arith) (omega arith)) ∙ c.in_ok-load_front.ensures.bytes t k (omega arith))
     (λ k low. put_here c.load_front.new.buffer c.put_bytes.new.bytes c.args.bytes.now _ k c.put_bytes.ensures (omega arith) low)
 
 pub returns-clause-adds : goal.returns-clause-adds
 returns-clause-adds g c = λ t was.
-    part_adds (g.F.Flash.image c.args.flash.now) (g.F.Flash.image c.load_front.new.flash) (g.F.Flash.image c.log_put.new.flash) c.put_bytes.new.bytes c.args.log.0 c.args.used _ (c.args.at / 128) (256 * c.args.pages - 32) was
+    part_adds (g.F.Flash.image c.args.flash.now) (g.F.Flash.image c.load_front.new.flash) (g.F.Flash.image c.log_put.new.flash) c.put_bytes.new.bytes c.args.log.0 c.args.used _ (c.args.at / 128) (256 * c.args.file.now.pages - 32) was
     c.in_ok-load_front.ensures.frame.same (omega arith) (c.in_ok-log_put.ensures.put t)
     (λ k low behind. put_outside c.load_front.new.buffer c.put_bytes.new.bytes c.args.bytes.now _ k c.put_bytes.ensures (omega arith) (λ a b. omega arith) ∙ c.load_front.ensures.behind k (omega arith) ∙ get_or-replicate 128 k 0 0 low)
 
 pub returns-in_err-load_front-clause-cut : goal.returns-in_err-load_front-clause-cut
 returns-in_err-load_front-clause-cut g c = λ t u. on_err c.from_residual.result (λ size is low begins fits.
-    overwrite_same (g.F.Flash.image c.args.flash.now) (g.F.Flash.image c.load_front.new.flash) c.args.bytes.now c.args.page.0 c.args.pages (Some c.args.log) c.args.used size c.args.at is low c.load_front.ensures.frame.same)
+    overwrite_same (g.F.Flash.image c.args.flash.now) (g.F.Flash.image c.load_front.new.flash) c.args.bytes.now c.args.file.now.page.0 c.args.file.now.pages (Some c.args.log) c.args.used size c.args.at is low c.load_front.ensures.frame.same)
 
 pub returns-in_err-log_put-clause-cut : goal.returns-in_err-log_put-clause-cut
 returns-in_err-log_put-clause-cut g c = λ t u. on_err c.from_residual-in_err-log_put.result (λ size is low begins fits.
@@ -33,11 +33,11 @@ returns-in_err-log_put-clause-cut g c = λ t u. on_err c.from_residual-in_err-lo
     let was : IsLog (g.F.Flash.image c.load_front.new.flash) c.args.log.0 c.args.used = subst (λ i. IsLog i c.args.log.0 c.args.used) (sym same) (is.logged c.args.log refl) in
     let all : take (length c.args.bytes.now) c.args.bytes.now ≡ c.args.bytes.now = take_all (length c.args.bytes.now) c.args.bytes.now (omega arith) in
     ⊎_elim
-    (λ torn. overwrite_before (g.F.Flash.image c.args.flash.now) (g.F.Flash.image c.log_put.new.flash) c.args.bytes.now c.args.page.0 c.args.pages (Some c.args.log) c.args.used size c.args.at is low
+    (λ torn. overwrite_before (g.F.Flash.image c.args.flash.now) (g.F.Flash.image c.log_put.new.flash) c.args.bytes.now c.args.file.now.page.0 c.args.file.now.pages (Some c.args.log) c.args.used size c.args.at is low
     (λ k out. torn k out ∙ ap (λ i. get_or i k 0) same))
-    (λ puts. overwrite_behind (g.F.Flash.image c.args.flash.now) (g.F.Flash.image c.log_put.new.flash) c.args.bytes.now c.args.page.0 c.args.pages (Some c.args.log) (c.args.used + 1) size c.args.at
-    (subst (λ xs. FileBecomes (g.F.Flash.image c.args.flash.now) (g.F.Flash.image c.log_put.new.flash) c.args.page.0 c.args.pages (Some c.args.log) (c.args.used + 1) (max size (c.args.at + length c.args.bytes.now)) c.args.at xs) (sym all)
-    (part_becomes (g.F.Flash.image c.args.flash.now) (g.F.Flash.image c.load_front.new.flash) (g.F.Flash.image c.log_put.new.flash) c.put_bytes.new.bytes c.args.bytes.now c.args.page.0 c.args.pages c.args.log c.args.used size (max size (c.args.at + length c.args.bytes.now)) c.args.at _ is
+    (λ puts. overwrite_behind (g.F.Flash.image c.args.flash.now) (g.F.Flash.image c.log_put.new.flash) c.args.bytes.now c.args.file.now.page.0 c.args.file.now.pages (Some c.args.log) (c.args.used + 1) size c.args.at
+    (subst (λ xs. FileBecomes (g.F.Flash.image c.args.flash.now) (g.F.Flash.image c.log_put.new.flash) c.args.file.now.page.0 c.args.file.now.pages (Some c.args.log) (c.args.used + 1) (max size (c.args.at + length c.args.bytes.now)) c.args.at xs) (sym all)
+    (part_becomes (g.F.Flash.image c.args.flash.now) (g.F.Flash.image c.load_front.new.flash) (g.F.Flash.image c.log_put.new.flash) c.put_bytes.new.bytes c.args.bytes.now c.args.file.now.page.0 c.args.file.now.pages c.args.log c.args.used size (max size (c.args.at + length c.args.bytes.now)) c.args.at _ is
     same (omega arith) (λ was. puts) (omega arith) (omega arith) (omega arith) (omega arith) (omega arith)
     (λ k low within out. put_outside c.load_front.new.buffer c.put_bytes.new.bytes c.args.bytes.now _ k c.put_bytes.ensures (omega arith) (λ a b. out (omega arith) (omega arith)) ∙ c.in_ok-load_front.ensures.bytes t k (omega arith))
     (λ k low. put_here c.load_front.new.buffer c.put_bytes.new.bytes c.args.bytes.now _ k c.put_bytes.ensures (omega arith) low)))

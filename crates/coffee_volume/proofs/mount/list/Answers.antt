@@ -1,4 +1,4 @@
-use Rattle.std.proofs.Common.{◌≡◌, ◌*◌, ◌≤◌, None, length, sym, subst, arith, ◌∙◌}
+use Rattle.std.proofs.Common.{◌≡◌, ◌*◌, None, length, sym, subst, arith, ◌∙◌}
 use Rattle.std.specs.List.{All}
 use Rattle.coffee_layout.specs.Files.{FitsIn, listed}
 use Rattle.coffee_layout.specs.Rules.{broken_image}

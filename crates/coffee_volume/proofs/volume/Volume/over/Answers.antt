@@ -1,4 +1,4 @@
-use Rattle.std.proofs.Common.{◌≡◌, true, ◌&&◌, ◌*◌, ◌≤◌, None, length, sym, ap, ◌∙◌, subst, arith, refl}
+use Rattle.std.proofs.Common.{◌≡◌, true, ◌&&◌, ◌*◌, None, length, sym, ap, ◌∙◌, subst, arith, refl}
 use Rattle.coffee_layout.specs.Units.{pages_of}
 use Rattle.coffee_merge.specs.Holding.{HoldsTable}
 use Rattle.coffee_volume.specs.Volumes.{places}
