@@ -1,5 +1,5 @@
 -- A file that is put together with its log: a new extent, the copy of the file into it, and three flags.
-use Rattle.std.proofs.Common.{length, map, true, false, [], ◌∷◌, ◌++◌, replicate, ◌≡◌, ◌≢◌, ℕ, ◌-◌, ◌*◌, ◌≤◌, ◌<◌, ◌==◌, List, Some, None, bit_or, refl, ap, sym, subst, ◌∙◌, arith}
+use Rattle.std.proofs.Common.{length, map, true, false, ◌++◌, replicate, ◌≡◌, ◌≢◌, ℕ, ◌-◌, ◌*◌, ◌≤◌, ◌<◌, ◌==◌, List, Some, None, bit_or, refl, ap, sym, subst, ◌∙◌, arith}
 use Rattle.afl_base.specs.declared.ids.PageId.{PageId}
 use Rattle.coffee_cuts.proofs.TornAlone.{contains_made}
 use Rattle.coffee_header.specs.Headers.{is_flags}

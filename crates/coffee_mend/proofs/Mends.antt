@@ -30,6 +30,12 @@ space_more P Q (Err (Space need)) more p = more need p
 space_more P Q (Err Failed) more p = tt
 space_more P Q (Err Unsettled) more p = tt
 
+pub space_both : {T : Type 0} (P Q R : ℕ → Type 0) (r : Result T MendError) → ((need : ℕ) → P need → Q need → R need) → IfErr r (λ e. OnLacking e P) → IfErr r (λ e. OnLacking e Q) → IfErr r (λ e. OnLacking e R)
+space_both P Q R (Ok x) both p q = tt
+space_both P Q R (Err (Space need)) both p q = both need p q
+space_both P Q R (Err Failed) both p q = tt
+space_both P Q R (Err Unsettled) both p q = tt
+
 -- why a file was not joined
 pub mend_cause : {T U : Type 0} (r : Result T MendError) (done : Result U FileError) (before now : ℕ) → HasFileCause before now done → IfErr r (λ e. OnFlashFailed e (done ≡ Err file_failed)) → HasMendCause before now r
 mend_cause (Ok x) done before now cause failed = record { later = cause.later; failed = tt }

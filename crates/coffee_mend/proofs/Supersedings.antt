@@ -1,5 +1,5 @@
 -- What a torn record is: one that may be superseded, or one whose file is put together with its log.
-use Rattle.std.proofs.Common.{◌≡◌, inl, inr, ⊎_elim, ℕ, ◌+◌, ◌*◌, ◌/◌, ◌<◌, ◌≤◌, List, length, Some, None, refl, ap, sym, subst, ◌∙◌, arith}
+use Rattle.std.proofs.Common.{◌≡◌, ◌⊎◌, inl, inr, ⊎_elim, ℕ, ◌+◌, ◌*◌, ◌/◌, ◌<◌, ◌≤◌, List, length, Some, None, refl, ap, sym, subst, ◌∙◌, arith}
 use Rattle.std.proofs.lemmas.Bool.{cases_lt}
 use Rattle.std.specs.List.{Contains}
 use Rattle.afl_base.specs.Image.{zeros_at}
@@ -148,11 +148,14 @@ module _ (image : List ℕ) (sectors : ℕ) (size : length image ≡ 4096 * sect
   sound_without (inr s) = (base_sound s, base_active s)
 
   -- so it is put together with its log where it is the last one, or its file has no bytes
-  pub torn_of : (file : FileAt) (region : List ℕ) → IsFirstRegion base r.log file region → (r.used < 29 → file.size ≡ 0) → IsSoundBut image (Some r) → IsTornOf image r file
-  torn_of file region f none (inl t) =
+  pub torn_of : (file : FileAt) (region : List ℕ) → IsFirstRegion base r.log file region → (r.used ≡ 29) ⊎ (file.size ≡ 0) → IsSoundBut image (Some r) → IsTornOf image r file
+  torn_of file region f last (inl t) =
       let is : base ≡ zeros_at image r.place 128 = without_last image r t.0 in
       record { torn = t.1; owner = record { there = subst (λ x. Contains (listed x) file) is f.there; logged = f.logged } }
-  torn_of file region f none (inr s) = empty_of s file region f (none (low s))
+  torn_of file region f last (inr s) = ⊎_elim
+      (λ (is : r.used ≡ 29). let less = low s in absurd (omega (arith, less, is)))
+      (λ (none : file.size ≡ 0). empty_of s file region f none)
+      last
 
   -- and is superseded elsewhere
   superseded_at : r.used < 29 → IsSoundBut image (Some r) → IsSupersededAt image r

@@ -1,10 +1,10 @@
-ghost use Rattle.std.specs.Prelude.{◌≡◌, ◌≢◌, ◌≤◌, ◌<◌, true, Err, None, Ok, Some, length, IsTrue, IfErr, OnOk};
+ghost use Rattle.std.specs.Prelude.{◌≡◌, ◌≢◌, ◌⊎◌, ◌≤◌, ◌<◌, true, false, Err, None, Ok, Some, length, IsTrue, IfErr, OnOk};
 ghost use Rattle.afl_base.specs.declared.kind.FileError.TheVariants.{Failed as FaultOfFile, Space as LackOfSpace};
 ghost use Rattle.coffee_find.specs.Found.{HasRecord, IsCutBy, IsSoundBut, IsTroubleInside, without_record};
 ghost use Rattle.coffee_find.specs.Search.{IsFirstRegion};
 ghost use Rattle.coffee_layout.specs.Files.{FitsIn};
 ghost use Rattle.coffee_layout.specs.Units.{pages_of};
-ghost use Rattle.coffee_mend.specs.Completed.{LackBits, regions_below};
+ghost use Rattle.coffee_mend.specs.Completed.{AwaitsCopy, LackBits, WantsCopy, regions_below};
 ghost use Rattle.coffee_mend.specs.Mended.{IsCrowded, IsFailure, IsMended, IsSoundAs, IsTornAs, MendAlike, MendsFlash, MendsLike, OnFlashFailed, OnLacking};
 ghost use Rattle.coffee_mend.specs.Superseding.{IsTornOf};
 ghost use Rattle.coffee_mend.specs.declared.mending.MendError.TheVariants.{Unsettled as StrangeImage};
@@ -32,14 +32,17 @@ pub enum MendError {
 }
 
 /// Repairs what a cut left of an image: it is sound then, and has just the files that it mends to. It
-/// asks for pages only where a record is torn. Where the flash fails, in whichever write, the image that is
-/// left mends to the same files.
+/// asks for pages only where a record is torn that can be neither superseded nor completed: the thirtieth of
+/// its log or one of an empty file, of which no region has all bits of the record. Where the flash fails, in
+/// whichever write, the image that is left mends to the same files.
 pub fn mend<F: Flash>(flash: &mut F, trouble: &Trouble) -> Result<(), MendError>
     requires inside { IsTroubleInside (length (F.image flash.old)) trouble.now }
     ensures mended { IsTrue F.tells → IsCutBy (F.image flash.old) trouble.now
         → OnOk result (IsMended (F.image flash.old) (F.image flash.new)) }
     ensures space { IsTrue F.tells → IsCutBy (F.image flash.old) trouble.now
         → IfErr result (λ e. OnLacking e (λ need. IsCrowded (F.image flash.old) (F.image flash.new) need)) }
+    ensures wanted { IsTrue F.tells → IsCutBy (F.image flash.old) trouble.now → IfErr result
+        (λ e. OnLacking e (λ need. AwaitsCopy (F.image flash.old) (F.image flash.new) trouble.now)) }
     ensures settles { IsTrue F.tells → IsCutBy (F.image flash.old) trouble.now
         → result ≢ Err StrangeImage }
     ensures failures { trouble.now.torn ≡ None → IfErr result (λ e. IsFailure e) }
@@ -65,6 +68,8 @@ fn mend_torn<F: Flash>(flash: &mut F, torn: &TornRecord) -> Result<(), MendError
     ensures space { IsTrue F.tells → IsSoundBut (F.image flash.old) (Some torn.now)
         → IfErr result (λ e. OnLacking e (λ need.
         IsTornAs (F.image flash.old) (F.image flash.new) torn.now.log.0 torn.now.place need)) }
+    ensures wanted { IsTrue F.tells → IsSoundBut (F.image flash.old) (Some torn.now)
+        → IfErr result (λ e. OnLacking e (λ need. WantsCopy (F.image flash.old) torn.now)) }
     ensures settles { IsTrue F.tells → IsSoundBut (F.image flash.old) (Some torn.now)
         → result ≢ Err StrangeImage }
     ensures cut { IsTrue F.tells → IsTrue F.cuts → IsSoundBut (F.image flash.old) (Some torn.now)
@@ -76,12 +81,22 @@ fn mend_torn<F: Flash>(flash: &mut F, torn: &TornRecord) -> Result<(), MendError
     match owner_beside(flash, torn, &mut region) {
         Err(Failed) => Err(MendError::Failed),
         Ok(None) => Err(MendError::Unsettled),
-        Ok(Some(file)) => if torn.used < 29 && 1 <= file.size {
+        Ok(Some(file)) => if can_be_superseded(torn, &file) {
             supersede_torn(flash, torn, &region, &file)
         } else {
             complete_or_join(flash, torn, &file)
         },
     }
+}
+
+// Whether a torn record can be superseded: it is not the last of its log, and its file has a first region.
+fn can_be_superseded(torn: &TornRecord, file: &FileAt) -> bool
+    requires few { torn.now.used < 30 }
+    ensures low { result ≡ true → torn.now.used < 29 }
+    ensures some { result ≡ true → 1 ≤ file.now.size }
+    ensures neither { result ≡ false → (torn.now.used ≡ 29) ⊎ (file.now.size ≡ 0) }
+{
+    torn.used < 29 && 1 <= file.size
 }
 
 // Supersedes a torn record that is not the last of its log.

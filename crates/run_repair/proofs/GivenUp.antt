@@ -11,6 +11,7 @@ use Rattle.coffee_cuts.specs.Cuts.{HasTornRecord, MendsTo, Nothing}
 use Rattle.coffee_cuts.proofs.OneSettling.{one_list}
 use Rattle.coffee_find.specs.Found.{IsRecordInside, IsTornAt}
 use Rattle.coffee_find.specs.declared.trouble.TornRecord.{TornRecord}
+use Rattle.coffee_find.specs.declared.trouble.Trouble.{Trouble}
 use Rattle.coffee_layout.specs.Files.{NamedFile, files_of}
 use Rattle.coffee_layout.specs.Rules.{broken_image}
 use Rattle.coffee_layout.specs.declared.file.FileAt.{FileAt}
@@ -33,7 +34,7 @@ use Rattle.stored.specs.Mended.{whole_bytes}
 use Rattle.stored.proofs.SoundCut.{named_there}
 use Rattle.stored_mend.specs.Reported.{bytes_by_name}
 use Rattle.stored_mend.proofs.OneFile.{catalog_no_tree}
-use Rattle.run_repair.specs.GivenUp.{IsBeingGivenUp, IsGivenUp, IsTreeRemoved, MayLack}
+use Rattle.run_repair.specs.GivenUp.{IsBeingGivenUp, IsGivenUp, IsNeeded, IsTreeRemoved, MayLack, NoneToGiveUp}
 use Rattle.run_repair.proofs.LostTrees.{seen_bytes}
 
 -- ---- a table that an image mends to
@@ -178,18 +179,32 @@ pub record MayBeGivenUp (image : List ℕ) (torn : TornRecord) (file : FileAt) :
   pub discards : IsDiscarded image file torn.log
   pub may : MayLack (files_of_image (discarded image file torn.log)) file.name
 
-pub found_lacking : (old first second : List ℕ) (sectors : ℕ) → length old ≡ 4096 * sectors → sectors ≤ 4096 → (torn : TornRecord) → IsRecordInside (length old) torn → (file : FileAt) → first ≡ old → second ≡ first
-    → (o : Option FileAt) → ((f : FileAt) × (o ≡ Some f) × IsTornOf first torn f) → o ≡ Some file
-    → (broken_image (discarded second file torn.log) ≡ None → MayLack (files_of_image (discarded second file torn.log)) file.name) → MayBeGivenUp old torn file
-found_lacking old first second sectors size few torn inside file one two o r is may =
-    let same : r.0 ≡ file = some_same r.0 file (sym r.1 ∙ is) in
-    let t : IsTornOf old torn file = subst (λ i. IsTornOf i torn file) one (subst (IsTornOf first torn) same r.2) in
-    let d : IsDiscarded old file torn.log = discards old sectors size few torn inside file t in
-    record {
-      torn_of = t;
-      discards = d;
-      may = subst (λ i. broken_image (discarded i file torn.log) ≡ None → MayLack (files_of_image (discarded i file torn.log)) file.name) (two ∙ one) may d.sound;
-    }
+module _ (old second : List ℕ) (sectors : ℕ) (size : length old ≡ 4096 * sectors) (few : sectors ≤ 4096) (torn : TornRecord) (inside : IsRecordInside (length old) torn) (file : FileAt) (same : second ≡ old)
+    (o : Option FileAt) (r : (f : FileAt) × (o ≡ Some f) × IsTornOf old torn f) (is : o ≡ Some file) where
+  of : IsTornOf old torn file
+  of = subst (IsTornOf old torn) (some_same r.0 file (sym r.1 ∙ is)) r.2
+
+  unbroken : IsDiscarded old file torn.log
+  unbroken = discards old sectors size few torn inside file of
+
+  pub found_lacking : (broken_image (discarded second file torn.log) ≡ None → MayLack (files_of_image (discarded second file torn.log)) file.name) → MayBeGivenUp old torn file
+  found_lacking may = record {
+    torn_of = of;
+    discards = unbroken;
+    may = subst (λ i. broken_image (discarded i file torn.log) ≡ None → MayLack (files_of_image (discarded i file torn.log)) file.name) same may unbroken.sound;
+  }
+
+  -- or is needed
+  pub found_needed : (broken_image (discarded second file torn.log) ≡ None → MayLack (files_of_image (discarded second file torn.log)) file.name → ⊥) → IsNeeded old torn
+  found_needed needed = record {
+    file = file;
+    of = of;
+    needed = subst (λ i. broken_image (discarded i file torn.log) ≡ None → MayLack (files_of_image (discarded i file torn.log)) file.name → ⊥) same needed unbroken.sound;
+  }
+
+-- no other record was found torn
+pub needed_each : (image : List ℕ) (trouble : Trouble) (torn : TornRecord) → trouble.torn ≡ Some torn → IsNeeded image torn → NoneToGiveUp image trouble
+needed_each image trouble torn found needed = λ other is last. subst (IsNeeded image) (some_same torn other (sym found ∙ is)) needed
 
 pub given_up : (old third new : List ℕ) (sectors : ℕ) → length old ≡ 4096 * sectors → (torn : TornRecord) (file : FileAt) → MayBeGivenUp old torn file → third ≡ old → new ≡ discarded third file torn.log → IsGivenUp old new
 given_up old third new sectors size torn file m same is = given old sectors size torn file m.torn_of m.discards m.may new (is ∙ ap (λ i. discarded i file torn.log) same)

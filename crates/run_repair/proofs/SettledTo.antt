@@ -1,14 +1,18 @@
 -- An image whose files are settled, or lack the tree of an index: what is so of its database is so of that which was found.
-use Rattle.std.proofs.Common.{◌≡◌, ◌⊎◌, inl, inr, ⊎_elim, ℕ, ◌*◌, List, length, None, refl, ap, sym, subst, ◌∙◌}
-use Rattle.std.specs.Prelude.{Ok, ⊤}
+use Rattle.std.proofs.Common.{◌≡◌, ◌⊎◌, inl, inr, ⊎_elim, ℕ, ◌*◌, List, length, Option, None, refl, ap, sym, subst, ◌∙◌, arith}
+use Rattle.std.specs.Prelude.{Err, IfErr, Ok, Result, ⊤}
 use Rattle.afl_base.specs.Files.{Table}
-use Rattle.coffee_find.specs.Found.{IsTroubleInside}
+use Rattle.coffee_find.specs.Found.{IsTornAt, IsTroubleInside}
+use Rattle.coffee_find.specs.declared.trouble.TornRecord.{TornRecord}
 use Rattle.coffee_find.specs.declared.trouble.Trouble.{Trouble}
+use Rattle.coffee_layout.specs.Rules.{broken_image}
+use Rattle.coffee_mend.specs.Completed.{AwaitsCopy}
 use Rattle.coffee_mend.specs.Mended.{IsMended, MendAlike}
 use Rattle.db_model.specs.Database.{Database}
 use Rattle.image_model.specs.Images.{IsSound, base, files_of_image}
 use Rattle.image_model.specs.Mending.{ImageReadsAs}
 use Rattle.image_model.proofs.OneBase.{one_base, own_files, sound_mends, table_mends}
+use Rattle.padded.proofs.Facts.{some_same}
 use Rattle.stored.specs.Mended.{mended_base}
 use Rattle.stored.proofs.FilesOf.{unbroken}
 use Rattle.stored_mend.specs.Mending.{IsPutRight}
@@ -19,10 +23,11 @@ use Rattle.stored_mend.proofs.PutRight.{put_right_same}
 use Rattle.stored_mend.proofs.ReportNames.{index_formed}
 use Rattle.stored_mend.proofs.TreesLost.{loses_same}
 use Rattle.run_repair.specs.Findings.{IsLeftByCut, MayBeCut}
-use Rattle.run_repair.specs.GivenUp.{IsBeingGivenUp, IsGivenUp, IsSettledTo, IsTreeRemoved}
+use Rattle.run_repair.specs.GivenUp.{IsBeingGivenUp, IsCopyNeeded, IsGivenUp, IsSettledTo, IsStillTorn, IsTreeRemoved, NeedsPages, NoneToGiveUp}
 use Rattle.run_repair.specs.Mends.{IsRestored, MendsButLacks, MendsPutRight, OnFault, OnSpaceless, StillMends, StillMendsButLacks}
-use Rattle.run_repair.specs.Repairs.{IsReportedOf, Leaves}
-use Rattle.run_repair.specs.declared.came.Came.TheVariants.{Repaired}
+use Rattle.run_repair.specs.Repairs.{IsReportedOf, IsSaid, Leaves, status_after}
+use Rattle.run_repair.specs.declared.came.Came.{Came}
+use Rattle.run_repair.specs.declared.came.Came.TheVariants.{Repaired, Sound, Strange}
 use Rattle.run_repair.specs.declared.came.Hindrance.{Hindrance}
 use Rattle.run_repair.specs.declared.came.Hindrance.TheVariants.{Spaceless, Unsettled, Failed}
 use Rattle.run_repair.proofs.Interrupted.{alike_files, alike_mends}
@@ -54,6 +59,43 @@ given_settled old mid new sectors size a g = record {
   cut = g.cut;
   kept = inr (g.slot, g.lacks);
 }
+
+-- ---- what was lacking
+
+-- the record whose file awaits a copy is the one that was found torn
+pub still_torn : (old new : List ℕ) (trouble : Trouble) → AwaitsCopy old new trouble → IsStillTorn new trouble
+still_torn old new trouble a = λ torn is. subst (λ (r : TornRecord). IsTornAt new r.log.0 r.place) (some_same a.torn torn (sym a.found ∙ is)) a.still
+
+-- no tree was given up instead
+pub copy_needed : (old mid new : List ℕ) (trouble : Trouble) → new ≡ mid → AwaitsCopy old mid trouble → NoneToGiveUp mid trouble → IsCopyNeeded old new trouble
+copy_needed old mid new trouble same a none = subst (λ i. IsCopyNeeded old i trouble) (sym same) (record { awaits = a; none = none })
+
+-- what the pages are for
+pub files_need : (old new : List ℕ) (trouble : Trouble) (why : Hindrance) → OnSpaceless why (λ need. IsCopyNeeded old new trouble) → OnSpaceless why (λ need. NeedsPages old new)
+files_need old new trouble (Spaceless need) n = inl (trouble, n)
+files_need old new trouble (Unsettled bad) n = tt
+files_need old new trouble Failed n = tt
+
+pub database_needs : (old new : List ℕ) (why : Hindrance) → OnSpaceless why (λ need. broken_image new ≡ None) → OnSpaceless why (λ need. NeedsPages old new)
+database_needs old new (Spaceless need) unbroken = inr unbroken
+database_needs old new (Unsettled bad) unbroken = tt
+database_needs old new Failed unbroken = tt
+
+-- where a repair says so
+pub said_needed : (old new : List ℕ) (mended : List Mended) (came : Result Came Hindrance) (status : ℕ) (held now : Option (List ℕ)) → IsSaid status mended came held now → status ≡ 3
+    → IfErr came (λ why. OnSpaceless why (λ need. NeedsPages old new)) → NeedsPages old new
+said_needed old new mended came status held now says three needs = ⊎_elim
+    (λ (all : (status ≡ status_after came) × _). by_came came needs (sym all.0 ∙ three))
+    (λ (less : (status ≡ 5) × _). let five = less.0 in absurd (omega (arith, five, three)))
+    says
+  where
+    by_came : (came : Result Came Hindrance) → IfErr came (λ why. OnSpaceless why (λ need. NeedsPages old new)) → status_after came ≡ 3 → NeedsPages old new
+    by_came (Ok Sound) n e = absurd (omega (arith, e))
+    by_came (Ok Repaired) n e = absurd (omega (arith, e))
+    by_came (Ok (Strange bad)) n e = absurd (omega (arith, e))
+    by_came (Err (Spaceless need)) n e = n
+    by_came (Err (Unsettled bad)) n e = absurd (omega (arith, e))
+    by_came (Err Failed) n e = absurd (omega (arith, e))
 
 -- ---- the database
 

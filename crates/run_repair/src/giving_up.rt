@@ -1,19 +1,20 @@
-ghost use Rattle.std.specs.Prelude.{◌≡◌, ◌≢◌, ◌⊎◌, ◌*◌, ◌<◌, ℕ, List, IfNone, IfOk, IfSome, IsTrue, None, OnErr, Some, false, length, true};
+ghost use Rattle.std.specs.Prelude.{◌≡◌, ◌≢◌, ◌⊎◌, ◌<◌, ℕ, IfNone, IfOk, IfSome, IsTrue, None, OnErr, Some, false, length, true};
 ghost use Rattle.std.specs.Bool.{Decides};
 ghost use Rattle.afl_base.specs.Causes.{HasCause};
 ghost use Rattle.afl_base.specs.Keeping.{OnlyReads};
 ghost use Rattle.catalog.specs.Rules.{is_tree};
-ghost use Rattle.coffee_find.specs.Found.{HasRecord, IsCutBy, IsJudged, IsJudgedInside, IsSoundBut, IsTroubleInside};
+ghost use Rattle.coffee_find.specs.Found.{HasRecord};
+ghost use Rattle.coffee_find.specs.declared.trouble.TornRecord.{TornRecord as Torn};
 ghost use Rattle.coffee_layout.specs.Rules.{broken_image};
 ghost use Rattle.coffee_mend.specs.Discarded.{discarded};
 ghost use Rattle.flash_views.specs.Views.{FitsImage, overlaid};
 ghost use Rattle.image_model.specs.Images.{files_of_image};
-ghost use Rattle.run_repair.specs.GivenUp.{IsBeingGivenUp, IsGivenUp, MayLack};
+ghost use Rattle.run_repair.specs.GivenUp.{IsBeingGivenUp, IsGivenUp, IsStillTorn, MayLack, NoneToGiveUp};
 ghost use Rattle.space_model.specs.FileNames.{tree_file};
 ghost use Rattle.stored_mend.specs.Reported.{index_seen};
 
 use afl_base::{Failed, Files, Flash, Name, PageId};
-use coffee_find::{Judgement, TornRecord, Trouble, UnderWay, judge};
+use coffee_find::{TornRecord, Trouble};
 use coffee_layout::FileAt;
 use coffee_mend::{discard, torn_file};
 use coffee_volume::{Unlisted, Volume, list};
@@ -21,21 +22,24 @@ use flash_views::{Handed, Mark, Overlay, View};
 use stored_mend::whole_catalog;
 use stored_survey::may_be_cut;
 
-/// Gives up the tree of an index, where the last record of its log is torn and a cut can have left the files without it: it can
-/// be made of the rows. It answers whether it did; else the image is as it was.
+/// Gives up the tree of an index, where the thirtieth record of its log is torn and a cut can have left the files without it:
+/// it can be made of the rows. It answers whether it did; else the image is as it was, and there was none to give up.
 #[inline(never)]
-pub fn give_up_tree<F: Flash>(flash: &mut F) -> Result<bool, Failed>
-    ensures given { IsTrue F.tells → IfOk result (λ given. given ≡ true
-        → IsGivenUp (F.image flash.old) (F.image flash.new)) }
+pub fn give_up_tree<F: Flash>(flash: &mut F, trouble: &Trouble) -> Result<bool, Failed>
+    requires inside { HasRecord (length (F.image flash.old)) trouble.now.torn }
+    ensures given { IsTrue F.tells → IsStillTorn (F.image flash.old) trouble.now
+        → IfOk result (λ given. given ≡ true → IsGivenUp (F.image flash.old) (F.image flash.new)) }
     ensures stays { IfOk result (λ given. given ≡ false → F.image flash.new ≡ F.image flash.old) }
-    ensures cut { IsTrue F.tells → IsTrue F.cuts → OnErr result
+    ensures needed { IsTrue F.tells → IsStillTorn (F.image flash.old) trouble.now
+        → IfOk result (λ given. given ≡ false → NoneToGiveUp (F.image flash.old) trouble.now) }
+    ensures cut { IsTrue F.tells → IsTrue F.cuts → IsStillTorn (F.image flash.old) trouble.now → OnErr result
         ((F.image flash.new ≡ F.image flash.old) ⊎ IsBeingGivenUp (F.image flash.old) (F.image flash.new)) }
     ensures size { length (F.image flash.new) ≡ length (F.image flash.old) }
     ensures lent { F.lent flash.new ≡ F.lent flash.old }
     ensures cause { HasCause (F.faults flash.old) (F.faults flash.new) result }
 {
     flash.sectors();
-    let Some(torn) = last_torn(judge(flash)?) else {
+    let Some(torn) = last_torn(trouble) else {
         return Ok(false);
     };
     let Some(file) = torn_file(flash, &torn)? else {
@@ -48,27 +52,12 @@ pub fn give_up_tree<F: Flash>(flash: &mut F) -> Result<bool, Failed>
     Ok(true)
 }
 
-// The last record of a log, where it is torn and nothing else is wrong.
-fn last_torn(judgement: Judgement) -> Option<TornRecord>
-    ensures torn { IfSome result (λ r. (image : List ℕ) → IsJudged image judgement → IsSoundBut image (Some r)) }
-    ensures inside { IfSome result (λ r. (size : ℕ) → IsJudgedInside size judgement → HasRecord size (Some r)) }
+// The record that was found torn, where it is the thirtieth of its log.
+fn last_torn(trouble: &Trouble) -> Option<TornRecord>
+    ensures torn { IfSome result (λ r. trouble.now.torn ≡ Some r) }
     ensures last { IfSome result (λ r. r.used ≡ 29) }
+    ensures none { IfNone result ((r : Torn) → trouble.now.torn ≡ Some r → r.used ≢ 29) }
 {
-    match judgement {
-        Judgement::Cut(trouble) => last_alone(&trouble),
-        Judgement::Sound | Judgement::Strange(_) => None,
-    }
-}
-
-fn last_alone(trouble: &Trouble) -> Option<TornRecord>
-    ensures torn { IfSome result (λ r. (image : List ℕ) → IsCutBy image trouble.now → IsSoundBut image (Some r)) }
-    ensures inside { IfSome result (λ r. (size : ℕ) → IsTroubleInside size trouble.now → HasRecord size (Some r)) }
-    ensures last { IfSome result (λ r. r.used ≡ 29) }
-{
-    match trouble.under_way {
-        UnderWay::Nothing => {}
-        _ => return None,
-    }
     match trouble.torn {
         Some(torn) => if torn.used == 29 { Some(torn) } else { None },
         None => None,

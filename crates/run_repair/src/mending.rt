@@ -29,6 +29,9 @@ pub fn mend_image<F: Flash>(flash: &mut F, report: &mut Report) -> Result<(), Hi
     ensures space { IsTrue F.tells → broken_image (F.image flash.old) ≡ None
         → IsCutTable (files_of_image (F.image flash.old))
         → IfErr result (λ why. OnSpaceless why (StillMendsButLacks (F.image flash.old) (F.image flash.new))) }
+    ensures unbroken { IsTrue F.tells → broken_image (F.image flash.old) ≡ None
+        → IsCutTable (files_of_image (F.image flash.old))
+        → IfErr result (λ why. OnSpaceless why (λ need. broken_image (F.image flash.new) ≡ None)) }
     ensures cut { IsTrue F.tells → IsTrue F.cuts → broken_image (F.image flash.old) ≡ None
         → IsCutTable (files_of_image (F.image flash.old))
         → IfErr result (λ why. OnFault why (StillMends (F.image flash.old) (F.image flash.new))) }
@@ -60,6 +63,9 @@ fn mend_volume<F: Flash>(volume: &mut Volume<F>, report: &mut Report) -> Result<
     ensures space { let files = ⟦<Volume<F> as Files>⟧ in IsTrue (files.state volume.old).tells
         → IsCutTable (files.state volume.old).files → IfErr result (λ why. OnSpaceless why
         (MendsButLacks (mended_base (files.state volume.old).files) (files.state volume.new).store)) }
+    ensures unbroken { let files = ⟦<Volume<F> as Files>⟧ in IsTrue (files.state volume.old).tells
+        → IsCutTable (files.state volume.old).files
+        → IfErr result (λ why. OnSpaceless why (λ need. broken_image (files.state volume.new).store ≡ None)) }
     ensures cut { let files = ⟦<Volume<F> as Files>⟧ in IsTrue F.cuts → IsTrue (files.state volume.old).tells
         → IsCutTable (files.state volume.old).files → IfErr result (λ why. OnFault why
         (MendsPutRight (mended_base (files.state volume.old).files) (files.state volume.new).store)) }

@@ -1,9 +1,10 @@
 ghost use Rattle.std.specs.Prelude.{◌≡◌, ◌≤◌, [], Err, IfErr, IsTrue, OnOk, length};
 ghost use Rattle.afl_base.specs.Causes.{Rose};
 ghost use Rattle.coffee_find.specs.Found.{IsCutBy, IsTroubleInside};
+ghost use Rattle.coffee_mend.specs.Completed.{AwaitsCopy};
 ghost use Rattle.coffee_mend.specs.Mended.{IsCrowded, IsMended};
 ghost use Rattle.run_repair.specs.Findings.{IsLeftByCut};
-ghost use Rattle.run_repair.specs.GivenUp.{IsSettledTo};
+ghost use Rattle.run_repair.specs.GivenUp.{IsCopyNeeded, IsSettledTo, NeedsPages};
 ghost use Rattle.run_repair.specs.Mends.{IsHindered, OnFault, OnSpaceless, StaysOrMends, StillMends, StillMendsButLacks};
 ghost use Rattle.run_repair.specs.Repairs.{IsRepairStatus, IsToldOf, Leaves, Repairs};
 ghost use Rattle.image_model.specs.Images.{IsSound};
@@ -27,7 +28,7 @@ use stored_mend::Report;
 /// | status | comes |
 /// |---|---|
 /// | 0 | the image was sound: `sound` was written, and it is as it was; or it was not, and is now, and stands for the database that it mended to, in which a relation may have one removed row more, and an index that had a tree may be gone: a line was written for each thing that was changed in its database, and for no other, and `repaired` |
-/// | 3 | no extent of N pages is available for what must be repaired, and `no space N` was written; the image still mends to that database, put right, so that another repair can end this one |
+/// | 3 | no extent of N pages is available for what must be repaired, and `no space N` was written; the image still mends to that database, put right, so that another repair can end this one; the pages are for the database, or to copy a file of which a record is torn, and which is empty or no tree to give up |
 /// | 4 | only where the flash counted a fault; where its failures are cuts, the image is as it was, or still mends to that database, put right |
 /// | 5 | only where the sink counted a fault |
 /// | 6 | the image is not sound, and no cut leaves such a one: it is as it was, and `no image RULE PLACE` was written |
@@ -37,6 +38,7 @@ pub fn repair<F: Flash, K: Sink>(out: &mut K, flash: &mut F) -> u8
         → Repairs result (F.image flash.old) (F.image flash.new) (K.held out.old) (K.held out.new) }
     ensures cut { IsTrue F.tells → IsTrue F.cuts → result ≡ 4
         → StaysOrMends (F.image flash.old) (F.image flash.new) }
+    ensures needed { IsTrue F.tells → result ≡ 3 → NeedsPages (F.image flash.old) (F.image flash.new) }
     ensures flash { result ≡ 4 → Rose (F.faults flash.old) (F.faults flash.new) }
     ensures sink { result ≡ 5 → Rose (K.faults out.old) (K.faults out.new) }
     ensures size { length (F.image flash.new) ≡ length (F.image flash.old) }
@@ -53,6 +55,8 @@ fn put_right<F: Flash>(flash: &mut F, report: &mut Report) -> Result<Came, Hindr
     ensures leaves { IsTrue F.tells → Leaves (F.image flash.old) (F.image flash.new) result }
     ensures cut { IsTrue F.tells → IsTrue F.cuts
         → IfErr result (λ why. OnFault why (StaysOrMends (F.image flash.old) (F.image flash.new))) }
+    ensures needed { IsTrue F.tells
+        → IfErr result (λ why. OnSpaceless why (λ need. NeedsPages (F.image flash.old) (F.image flash.new))) }
     ensures size { length (F.image flash.new) ≡ length (F.image flash.old) }
     ensures lent { F.lent flash.new ≡ F.lent flash.old }
     ensures cause { result ≡ Err FaultOfFlash → Rose (F.faults flash.old) (F.faults flash.new) }
@@ -80,6 +84,8 @@ fn put_cut_right<F: Flash>(
         → Leaves (F.image flash.old) (F.image flash.new) result }
     ensures cut { IsTrue F.tells → IsTrue F.cuts → IsLeftByCut (F.image flash.old) trouble.now
         → IfErr result (λ why. OnFault why (StillMends (F.image flash.old) (F.image flash.new))) }
+    ensures needed { IsTrue F.tells → IsLeftByCut (F.image flash.old) trouble.now
+        → IfErr result (λ why. OnSpaceless why (λ need. NeedsPages (F.image flash.old) (F.image flash.new))) }
     ensures size { length (F.image flash.new) ≡ length (F.image flash.old) }
     ensures lent { F.lent flash.new ≡ F.lent flash.old }
     ensures cause { result ≡ Err FaultOfFlash → Rose (F.faults flash.old) (F.faults flash.new) }
@@ -106,6 +112,8 @@ fn settle_files<F: Flash>(flash: &mut F, trouble: &Trouble, bad: BadImage) -> Re
         → IfErr result IsHindered }
     ensures space { IsTrue F.tells → IsLeftByCut (F.image flash.old) trouble.now
         → IfErr result (λ why. OnSpaceless why (StillMendsButLacks (F.image flash.old) (F.image flash.new))) }
+    ensures needed { IsTrue F.tells → IsCutBy (F.image flash.old) trouble.now → IfErr result
+        (λ why. OnSpaceless why (λ need. IsCopyNeeded (F.image flash.old) (F.image flash.new) trouble.now)) }
     ensures cut { IsTrue F.tells → IsTrue F.cuts → IsLeftByCut (F.image flash.old) trouble.now
         → IfErr result (λ why. OnFault why (StillMends (F.image flash.old) (F.image flash.new))) }
     ensures size { length (F.image flash.new) ≡ length (F.image flash.old) }
@@ -117,7 +125,7 @@ fn settle_files<F: Flash>(flash: &mut F, trouble: &Trouble, bad: BadImage) -> Re
     match mend_files(flash, trouble, bad) {
         Ok(()) => Ok(()),
         Err(Hindrance::Spaceless { need }) => {
-            if give_up_tree(flash)? {
+            if give_up_tree(flash, trouble)? {
                 Ok(())
             } else {
                 Err(Hindrance::Spaceless { need })
@@ -137,6 +145,8 @@ fn mend_files<F: Flash>(flash: &mut F, trouble: &Trouble, bad: BadImage) -> Resu
         → IfErr result IsHindered }
     ensures space { IsTrue F.tells → IsCutBy (F.image flash.old) trouble.now
         → IfErr result (λ why. OnSpaceless why (IsCrowded (F.image flash.old) (F.image flash.new))) }
+    ensures wanted { IsTrue F.tells → IsCutBy (F.image flash.old) trouble.now → IfErr result
+        (λ why. OnSpaceless why (λ need. AwaitsCopy (F.image flash.old) (F.image flash.new) trouble.now)) }
     ensures cut { IsTrue F.tells → IsTrue F.cuts → IsLeftByCut (F.image flash.old) trouble.now
         → IfErr result (λ why. OnFault why (StillMends (F.image flash.old) (F.image flash.new))) }
     ensures size { length (F.image flash.new) ≡ length (F.image flash.old) }

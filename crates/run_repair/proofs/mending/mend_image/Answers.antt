@@ -1,6 +1,7 @@
-use Rattle.std.proofs.Common.{◌≡◌, ◌∙◌, ap, sym, subst, rules, []}
+use Rattle.std.proofs.Common.{◌≡◌, ◌∙◌, ap, sym, subst, rules, None, []}
 use Rattle.std.specs.Prelude.{IfErr, OnOk}
 use Rattle.afl_base.specs.Files.{State, Table}
+use Rattle.coffee_layout.specs.Rules.{broken_image}
 use Rattle.image_model.specs.Images.{files_of_image}
 use Rattle.image_model.proofs.Mounted.{mounted_files}
 use Rattle.stored.specs.CutTables.{IsCutTable}
@@ -25,6 +26,14 @@ returns-clause-space g c = λ told unbroken cut.
     let left : IfErr c.mend_volume.result (λ why. OnSpaceless why (StillMendsButLacks (g.F.Flash.image c.args.flash.now) (g.F.Flash.image c.mend_volume.new.volume.flash.flash.now))) =
     own_spaceless (g.F.Flash.image c.args.flash.now) (g.F.Flash.image c.mend_volume.new.volume.flash.flash.now) _ c.mend_volume.result unbroken files
     (c.mend_volume.ensures.space (volume.tells ∙ told) (subst IsCutTable (sym files) cut)) in
+    search (rules, left)
+
+pub returns-clause-unbroken : goal.returns-clause-unbroken
+returns-clause-unbroken g c = λ told unbroken cut.
+    let volume = c.over-volume.ensures in
+    let files = ap (λ (s : State). s.files) (volume.files told) ∙ mounted_files (g.F.Flash.image c.list.new.flash) ∙ ap files_of_image c.list.ensures.same in
+    let left : IfErr c.mend_volume.result (λ why. OnSpaceless why (λ need. broken_image (g.F.Flash.image c.mend_volume.new.volume.flash.flash.now) ≡ None)) =
+    c.mend_volume.ensures.unbroken (volume.tells ∙ told) (subst IsCutTable (sym files) cut) in
     search (rules, left)
 
 pub returns-clause-cut : goal.returns-clause-cut

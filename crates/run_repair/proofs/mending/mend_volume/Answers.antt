@@ -22,6 +22,11 @@ returns-in-Err-Space-clause-space g c = λ told cut.
     state_mends _ (g.F.Flash.image c.mend_database.new.files.flash) _ c.in-Err-Space.need (c.ends-in-Err-Space.ensures.sound left.tells left.idle) (c.ends-in-Err-Space.ensures.each left.tells left.idle)
     (c.ends-in-Err-Space.ensures.only left.tells left.idle) left (c.ends-in-Err-Space.ensures.cramped left.tells c.in-Err-Space.need lacks)
 
+pub returns-in-Err-Space-clause-unbroken : goal.returns-in-Err-Space-clause-unbroken
+returns-in-Err-Space-clause-unbroken g c = λ told cut.
+    let left = (rw c.in-Err-Space.field-0-is at c.in-Err-Space.ensures.space) told cut in
+    c.ends-in-Err-Space.ensures.sound left.tells left.idle
+
 pub returns-in-Err-Failed-clause-cut : goal.returns-in-Err-Failed-clause-cut
 returns-in-Err-Failed-clause-cut g c = λ cuts told cut.
     (rw c.in-Err-Failed.field-0-is at (c.in-Err-Failed.ensures.cut told cut cuts)) refl

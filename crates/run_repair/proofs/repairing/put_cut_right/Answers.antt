@@ -1,10 +1,11 @@
 use Rattle.std.proofs.Common.{◌∙◌}
 use Rattle.padded.proofs.Facts.{err_is}
-use Rattle.run_repair.specs.Mends.{OnFault, StillMends}
+use Rattle.run_repair.specs.GivenUp.{NeedsPages}
+use Rattle.run_repair.specs.Mends.{OnFault, OnSpaceless, StillMends}
 use Rattle.run_repair.specs.declared.came.Hindrance.TheVariants.{Failed as FaultOfFlash}
 use Rattle.run_repair.proofs.Interrupted.{on_error}
 use Rattle.run_repair.proofs.Mended.{left_hindered}
-use Rattle.run_repair.proofs.SettledTo.{fault_through, left_repaired, restored_mends, settled_reported, spaceless_through}
+use Rattle.run_repair.proofs.SettledTo.{database_needs, fault_through, files_need, left_repaired, restored_mends, settled_reported, spaceless_through}
 use Rattle.run_repair.proofs.Told.{told_hindered}
 use Rattle.run_repair.proofs.repairing.put_cut_right.Goals as goal
 
@@ -72,6 +73,32 @@ returns-in-Err-clause-leaves g c = λ told unsound left.
     let settled = c.in_ok-settle_files.ensures.settled told left in
     let restored = c.in_ok-mend_image.ensures.restored told settled.sound settled.cut in
     absurd (c.sound_image_breaks_no_rule.ensures (g.F.Flash.image c.mend_image.new.flash) c.in-Err.bad.rule c.in-Err.bad.place restored.sound (rw c.in-Err.is at (c.in_ok-judge_image.ensures.bad told)))
+
+-- what the pages are for
+
+pub returns-in_err-settle_files-clause-needed : goal.returns-in_err-settle_files-clause-needed
+returns-in_err-settle_files-clause-needed g c = λ told left.
+    let came = c.from_residual in
+    let why = c.in_err-settle_files.field-0.0 in
+    let old = g.F.Flash.image c.args.flash.now in
+    let new = g.F.Flash.image c.settle_files.new.flash in
+    on_error came.result why (λ w. OnSpaceless w (λ need. NeedsPages old new)) (err_is came.result why came.ensures.1)
+    (files_need old new c.args.trouble.now why (c.in_err-settle_files.ensures.needed told left.files))
+
+pub returns-in_err-mend_image-clause-needed : goal.returns-in_err-mend_image-clause-needed
+returns-in_err-mend_image-clause-needed g c = λ told left.
+    let came = c.from_residual-in_err-mend_image in
+    let why = c.in_err-mend_image.field-0.0 in
+    let old = g.F.Flash.image c.args.flash.now in
+    let new = g.F.Flash.image c.mend_image.new.flash in
+    let settled = c.in_ok-settle_files.ensures.settled told left in
+    on_error came.result why (λ w. OnSpaceless w (λ need. NeedsPages old new)) (err_is came.result why came.ensures.1)
+    (database_needs old new why (c.in_err-mend_image.ensures.unbroken told settled.sound settled.cut))
+
+pub returns-in_err-judge_image-clause-needed : goal.returns-in_err-judge_image-clause-needed
+returns-in_err-judge_image-clause-needed g c = λ told left.
+    let came = c.from_residual-in_err-judge_image in
+    on_error came.result FaultOfFlash (λ w. OnSpaceless w (λ need. NeedsPages (g.F.Flash.image c.args.flash.now) (g.F.Flash.image c.judge_image.new.flash))) (err_is came.result FaultOfFlash came.ensures.1) tt
 
 -- what is told
 
