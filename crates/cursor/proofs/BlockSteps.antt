@@ -20,11 +20,11 @@ pub record Passing (before now : Block) (c : JoinCursor) (z : ℤ) (rights : Lis
 module _ (b : Block) (c : JoinCursor) (rights : List Row) (nth : ℕ) (z : ℤ) (held : number_held b nth ≡ Some z) (inside : nth < b.end - b.begin) (met : HasMet b c.right_on rights) where
   not_before : (s : ℕ) → s < get_or b.firsts nth 0 → s < b.seen → is_live_and (belongs (Some (Number z)) c.right_on) (get_or rights s no_row) ≡ false
   not_before s less below =
-      no_partner z c.right_on (get_or rights s no_row) (λ is. let lies = met nth s z inside below held is in absurd (omega (arith, lies.first, less)))
+      no_partner z c.right_on (get_or rights s no_row) (λ is. let lies = met.lies nth s z inside below held is in absurd (omega (arith, lies.first, less)))
 
   not_behind : (s : ℕ) → get_or b.ends nth 0 ≤ s → s < b.seen → is_live_and (belongs (Some (Number z)) c.right_on) (get_or rights s no_row) ≡ false
   not_behind s more below =
-      no_partner z c.right_on (get_or rights s no_row) (λ is. let lies = met nth s z inside below held is in absurd (omega (arith, lies.last, more)))
+      no_partner z c.right_on (get_or rights s no_row) (λ is. let lies = met.lies nth s z inside below held is in absurd (omega (arith, lies.last, more)))
 
   pub skips_first : (first : ℕ) → c.from ≤ first → first ≤ b.seen → b.seen ≤ c.right_slots
       → ((s : ℕ) → c.from ≤ s → s < first → (b.seen ≡ c.right_slots) × (s < get_or b.firsts nth 0))

@@ -18,7 +18,7 @@ use Rattle.tuple_file.specs.declared.tuples.Tuples.{Tuples}
 use Rattle.tuple_file.specs.Column.{IsNumber, is_number}
 use Rattle.tuple_file.specs.Tuples.{row, rows, slots}
 use Rattle.cursor.specs.declared.block.Block.{Block}
-use Rattle.cursor.specs.Blocks.{HasMet, HoldsLefts, LiesBetween, StandsFor, number_held, number_of_row, number_of_value}
+use Rattle.cursor.specs.Blocks.{AreMarked, HasMet, HoldsLefts, LiesBetween, StandsFor, number_held, number_of_row, number_of_value}
 use Rattle.cursor.specs.Pairs.{belongs, partner_slots}
 use Rattle.cursor.specs.Remaining.{is_live_and, passing}
 use Rattle.cursor.proofs.Lists.{kept, passed_over}
@@ -152,13 +152,16 @@ module _ (test : List Value → Bool) (rights : List Row) (n : ℕ) where
 pub met_more : (old new : Block) (place slot : ℕ) (rights : List Row) (found : Option ℤ) → new ≡ record old { seen = new.seen; firsts = new.firsts; ends = new.ends }
     → found ≡ number_of_row place (get_or rights slot no_row)
     → ((k s : ℕ) → LiesBetween old k s → LiesBetween new k s)
-    → ((k : ℕ) (z : ℤ) → k < old.end - old.begin → number_held old k ≡ Some z → found ≡ Some z → LiesBetween new k slot)
+    → (AreMarked old → (k : ℕ) (z : ℤ) → k < old.end - old.begin → number_held old k ≡ Some z → found ≡ Some z → LiesBetween new k slot)
     → ((s : ℕ) → s < new.seen → (s ≡ slot → ⊥) → s < old.seen)
     → HasMet old place rights → HasMet new place rights
-met_more old new place slot rights found kept is widens meets others met nth s z less below held number =
-    let less_old : nth < old.end - old.begin = subst (λ (b : Block). nth < b.end - b.begin) kept less in
-    let held_old : number_held old nth ≡ Some z = subst (λ (b : Block). number_held b nth ≡ Some z) kept held in
-    ⊎_elim
-    (λ (here : s ≡ slot). subst (LiesBetween new nth) (sym here) (meets nth z less_old held_old (is ∙ ap (λ (n : ℕ). number_of_row place (get_or rights n no_row)) (sym here) ∙ number)))
-    (λ (other : s ≡ slot → ⊥). widens nth s (met nth s z less_old (others s below other) held_old number))
-    (cases_eq s slot)
+met_more old new place slot rights found kept is widens meets others met = record {
+  marked = subst AreMarked (sym kept) met.marked;
+  lies = λ nth s z less below held number.
+      let less_old : nth < old.end - old.begin = subst (λ (b : Block). nth < b.end - b.begin) kept less in
+      let held_old : number_held old nth ≡ Some z = subst (λ (b : Block). number_held b nth ≡ Some z) kept held in
+      ⊎_elim
+      (λ (here : s ≡ slot). subst (LiesBetween new nth) (sym here) (meets met.marked nth z less_old held_old (is ∙ ap (λ (n : ℕ). number_of_row place (get_or rights n no_row)) (sym here) ∙ number)))
+      (λ (other : s ≡ slot → ⊥). widens nth s (met.lies nth s z less_old (others s below other) held_old number))
+      (cases_eq s slot);
+}

@@ -1,5 +1,6 @@
 -- Blocks of left rows, for each of which the right rows are read once.
-use Rattle.std.specs.Prelude.{◌≡◌, ◌≤◌, ◌<◌, ⊤, ℕ, ℤ, pos, ◌+◌, ◌*◌, ◌-◌, Bool, true, false, List, [], ◌∷◌, take, drop, Option, Some, None, get_or, length, slice_get, if◌then◌else◌, IsTrue, MatchBool, MatchOption}
+use Rattle.std.specs.Prelude.{◌≡◌, ◌≤◌, ◌<◌, ⊤, ℕ, ℤ, pos, ◌+◌, ◌*◌, ◌-◌, ◌/◌, ◌%◌, Bool, true, false, List, [], ◌∷◌, take, drop, Option, Some, None, get_or, length, slice_get, if◌then◌else◌, IsTrue, MatchBool, MatchOption}
+use Rattle.std.specs.Int.{cast_unsigned, w64}
 use Rattle.afl_base.specs.Files.{State}
 use Rattle.db_model.specs.declared.values.Value.{Value}
 use Rattle.db_model.specs.declared.values.Value.TheVariants.{Number, Text}
@@ -41,11 +42,23 @@ pub record LiesBetween (b : Block) (nth slot : ℕ) : Type 0 where
   pub first : get_or b.firsts nth 0 ≤ slot
   pub last : slot < get_or b.ends nth 0
 
--- there lie all the right slots read so far that have its number
-abbrev pub HasMet : Block → ℕ → List Row → Type 0
-HasMet b place rights =
-    (nth slot : ℕ) (number : ℤ) → nth < b.end - b.begin → slot < b.seen → number_held b nth ≡ Some number
-    → number_of_row place (get_or rights slot no_row) ≡ Some number → LiesBetween b nth slot
+-- the mark of a number, below 4096: the upper twelve bits of a product of it, all in 64 bits without a sign
+unfoldable pub mark_of : ℤ → ℕ
+mark_of number = cast_unsigned w64 number * 11400714819323198485 % 18446744073709551616 / 4503599627370496
+
+-- the mark of each number that it holds is set
+abbrev pub AreMarked : Block → Type 0
+AreMarked b = (nth : ℕ) (number : ℤ) → nth < b.end - b.begin → number_held b nth ≡ Some number → get_or b.marks (mark_of number) false ≡ true
+
+-- but for the right rows that were read for it, it is the same block
+abbrev pub IsSameBlock : (old new : Block) → Type 0
+IsSameBlock old new = new ≡ record old { seen = new.seen; firsts = new.firsts; ends = new.ends }
+
+-- between the first and the last lie all the right slots read so far that have its number
+pub record HasMet (b : Block) (place : ℕ) (rights : List Row) : Type 0 where
+  pub marked : AreMarked b
+  pub lies : (nth slot : ℕ) (number : ℤ) → nth < b.end - b.begin → slot < b.seen → number_held b nth ≡ Some number
+      → number_of_row place (get_or rights slot no_row) ≡ Some number → LiesBetween b nth slot
 
 -- of the rows with a number the first from a slot on was found, or there was none
 abbrev pub FindsSlot : Option ℕ → Option ℤ → ℕ → List Row → (from count : ℕ) → Type 0

@@ -9,7 +9,7 @@ ghost use Rattle.db_model.specs.Row.{Row, no_row};
 ghost use Rattle.tuple_file.specs.Column.{IsNumber};
 ghost use Rattle.tuple_file.specs.Tuples.{HoldsRows, rows, slots};
 ghost use Rattle.cursor.specs.Pairs.{HasLive, MayReadPairs, join_cost_ahead};
-ghost use Rattle.cursor.specs.Blocks.{FindsSlot, HasMet, HoldsLefts, IsBlockOf, LiesBetween, MayReadBy, cost_by_block, number_held, number_of_row, number_of_value};
+ghost use Rattle.cursor.specs.Blocks.{AreMarked, FindsSlot, HasMet, HoldsLefts, IsBlockFor, IsBlockOf, IsSameBlock, LiesBetween, MayReadBy, cost_by_block, mark_of, number_held, number_of_row, number_of_value};
 
 use crate::join::JoinCursor;
 use afl_base::{Failed, Files, SlotNo};
@@ -33,6 +33,20 @@ pub struct Block {
     firsts: [u16; 256],
     // The last slot and 1: 0 where there is none.
     ends: [u16; 256],
+    // Of which numbers the marks are set: most right rows have a number whose mark is not, and so no left row has it.
+    marks: [bool; 4096],
+}
+
+// The mark of a number, below 4,096.
+#[tactic(auto, unfolding(crate::specs::Blocks::mark_of))]
+fn mark_of(number: &i64) -> u16
+    ensures mark { result ≡ mark_of number.now }
+    ensures few { result < 4096 }
+{
+    (number
+        .cast_unsigned()
+        .wrapping_mul(11_400_714_819_323_198_485)
+        >> 52) as u16
 }
 
 // Takes a slot between the first and the end of a row.
@@ -143,6 +157,7 @@ impl Block {
             live: [false; 256],
             firsts: [0; 256],
             ends: [0; 256],
+            marks: [false; 4096],
         }
     }
 
@@ -157,7 +172,9 @@ impl Block {
           live = self.new.live;
           firsts = self.new.firsts;
           ends = self.new.ends;
+          marks = self.new.marks;
         } }
+        ensures marked { AreMarked self.old → AreMarked self.new }
         ensures own { number_held self.new (self.old.end - self.old.begin) ≡ number.now }
         ensures others { (nth : ℕ) → nth < self.old.end - self.old.begin
             → number_held self.new nth ≡ number_held self.old nth }
@@ -167,6 +184,7 @@ impl Block {
             Some(number) => {
                 self.numbers[nth] = *number;
                 self.live[nth] = true;
+                self.marks[usize::from(mark_of(number))] = true;
             }
             None => self.live[nth] = false,
         }
@@ -194,9 +212,12 @@ impl Block {
         requires slot { slot < 32768 }
         ensures kept { self.new ≡ record self.old { firsts = self.new.firsts; ends = self.new.ends } }
         ensures widens { (k s : ℕ) → LiesBetween self.old k s → LiesBetween self.new k s }
-        ensures meets { (k : ℕ) → k < self.old.end - self.old.begin
+        ensures meets { AreMarked self.old → (k : ℕ) → k < self.old.end - self.old.begin
             → number_held self.old k ≡ Some number.now → LiesBetween self.new k slot }
     {
+        if !self.marks[usize::from(mark_of(number))] {
+            return;
+        }
         for nth in 0..self.end.saturating_sub(self.begin) {
             self.note(usize::from(nth), number, slot);
         }
@@ -208,7 +229,7 @@ impl Block {
         requires slot { slot < 32768 }
         ensures kept { self.new ≡ record self.old { firsts = self.new.firsts; ends = self.new.ends } }
         ensures widens { (k s : ℕ) → LiesBetween self.old k s → LiesBetween self.new k s }
-        ensures meets { (k : ℕ) (number : ℤ) → k < self.old.end - self.old.begin
+        ensures meets { AreMarked self.old → (k : ℕ) (number : ℤ) → k < self.old.end - self.old.begin
             → number_held self.old k ≡ Some number → found.now ≡ Some number
             → LiesBetween self.new k slot }
     {
@@ -223,13 +244,9 @@ impl Block {
         requires few { self.old.end ≤ self.old.begin + 256 }
         requires slot { slot < 32768 }
         requires order { slot ≤ self.old.seen }
-        ensures kept { self.new ≡ record self.old {
-          seen = self.new.seen;
-          firsts = self.new.firsts;
-          ends = self.new.ends;
-        } }
+        ensures kept { IsSameBlock self.old self.new }
         ensures widens { (k s : ℕ) → LiesBetween self.old k s → LiesBetween self.new k s }
-        ensures meets { (k : ℕ) (number : ℤ) → k < self.old.end - self.old.begin
+        ensures meets { AreMarked self.old → (k : ℕ) (number : ℤ) → k < self.old.end - self.old.begin
             → number_held self.old k ≡ Some number → found.now ≡ Some number
             → LiesBetween self.new k slot }
         ensures seen { slot < self.new.seen }
@@ -269,6 +286,7 @@ impl Block {
         ensures some { OnOk result (cursor.now.at < self.new.end) }
         ensures within { OnOk result (self.new.end ≤ cursor.now.left_slots) }
         ensures few { OnOk result (self.new.end ≤ self.new.begin + 256) }
+        ensures marked { OnOk result (AreMarked self.new) }
         ensures lefts { IsTrue (V.state files.old).tells → OnOk result (
             IsNumber cursor.now.left.schema.attributes cursor.now.left_on
             → HoldsLefts self.new cursor.now.left_on (rows (V.state files.old).files cursor.now.left)) }
@@ -282,6 +300,7 @@ impl Block {
         self.begin = cursor.at;
         self.end = cursor.at;
         self.seen = 0;
+        self.marks = [false; 4096];
         'rows: while self.end < end {
             let number = number_in(files, &cursor.left, self.end, cursor.left_on, left)?;
             self.push(&number);
@@ -301,11 +320,7 @@ impl Block {
         requires here { slot < cursor.now.right_slots }
         requires few { self.old.end ≤ self.old.begin + 256 }
         requires seen { slot ≤ self.old.seen }
-        ensures kept { OnOk result (self.new ≡ record self.old {
-          seen = self.new.seen;
-          firsts = self.new.firsts;
-          ends = self.new.ends;
-        }) }
+        ensures kept { OnOk result (IsSameBlock self.old self.new) }
         ensures seen { OnOk result (slot < self.new.seen) }
         ensures within { OnOk result (self.old.seen ≤ cursor.now.right_slots
             → self.new.seen ≤ cursor.now.right_slots) }
@@ -366,16 +381,9 @@ impl Block {
         right: &mut Tuple,
     ) -> Result<Option<SlotNo>, Failed>
         requires may_read { MayReadPairs (V.state files.old) cursor.now }
-        requires begin { self.old.begin ≤ cursor.now.at }
-        requires end { cursor.now.at < self.old.end }
-        requires few { self.old.end ≤ self.old.begin + 256 }
-        requires from { cursor.now.from ≤ self.old.seen }
-        requires seen { self.old.seen ≤ cursor.now.right_slots }
-        ensures kept { OnOk result (self.new ≡ record self.old {
-          seen = self.new.seen;
-          firsts = self.new.firsts;
-          ends = self.new.ends;
-        }) }
+        requires block { IsBlockFor self.old cursor.now }
+        requires inside { cursor.now.at < self.old.end }
+        ensures kept { OnOk result (IsSameBlock self.old self.new) }
         ensures seen { IfOk result (λ found. IfSome found (λ slot. slot < self.new.seen)) }
         ensures within { OnOk result (self.new.seen ≤ cursor.now.right_slots) }
         ensures below { IfOk result (λ found. IfSome found (λ slot. slot < cursor.now.right_slots)) }
@@ -415,18 +423,11 @@ impl Block {
         right: &mut Tuple,
     ) -> Result<Option<SlotNo>, Failed>
         requires may_read { MayReadPairs (V.state files.old) cursor.now }
-        requires begin { self.old.begin ≤ cursor.now.at }
-        requires end { cursor.now.at < self.old.end }
+        requires block { IsBlockFor self.old cursor.now }
+        requires inside { cursor.now.at < self.old.end }
         requires row { nth ≡ cursor.now.at - self.old.begin }
         requires held { number_held self.old nth ≡ Some number.now }
-        requires few { self.old.end ≤ self.old.begin + 256 }
-        requires from { cursor.now.from ≤ self.old.seen }
-        requires seen { self.old.seen ≤ cursor.now.right_slots }
-        ensures kept { OnOk result (self.new ≡ record self.old {
-          seen = self.new.seen;
-          firsts = self.new.firsts;
-          ends = self.new.ends;
-        }) }
+        ensures kept { OnOk result (IsSameBlock self.old self.new) }
         ensures seen { IfOk result (λ found. IfSome found (λ slot. slot < self.new.seen)) }
         ensures within { OnOk result (self.new.seen ≤ cursor.now.right_slots) }
         ensures below { IfOk result (λ found. IfSome found (λ slot. slot < cursor.now.right_slots)) }

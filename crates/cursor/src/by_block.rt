@@ -6,7 +6,7 @@ ghost use Rattle.std.specs.Prelude.{◌≡◌, ◌+◌, ◌*◌, ◌-◌, ◌<�
 ghost use Rattle.afl_base.specs.Keeping.{OnlyReads};
 ghost use Rattle.db_model.specs.Row.{Row};
 ghost use Rattle.tuple_file.specs.Tuples.{rows};
-ghost use Rattle.cursor.specs.Blocks.{HasMetRights, IsBlockFor, IsBlockOf, MayReadBy, PairsInBlock, PaysInBlock, YieldsByBlock, cost_by_block, cost_in_blocks};
+ghost use Rattle.cursor.specs.Blocks.{HasMetRights, IsBlockFor, IsBlockOf, IsSameBlock, MayReadBy, PairsInBlock, PaysInBlock, YieldsByBlock, cost_by_block, cost_in_blocks};
 ghost use Rattle.cursor.specs.Pairs.{FitsPairs, MayReadPairs};
 
 use crate::block::{Block, number_in};
@@ -57,11 +57,7 @@ impl JoinCursor {
         requires here { self.now.at < self.now.left_slots }
         requires block { IsBlockFor block.old self.now }
         requires inside { self.now.at < block.old.end }
-        ensures kept { OnOk result (block.new ≡ record block.old {
-          seen = block.new.seen;
-          firsts = block.new.firsts;
-          ends = block.new.ends;
-        }) }
+        ensures kept { OnOk result (IsSameBlock block.old block.new) }
         ensures seen { IfOk result (λ found. IfSome found (λ slot. slot < block.new.seen)) }
         ensures within { OnOk result (block.new.seen ≤ self.now.right_slots) }
         ensures below { IfOk result (λ found. IfSome found (λ slot. slot < self.now.right_slots)) }

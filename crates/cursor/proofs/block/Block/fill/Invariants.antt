@@ -1,7 +1,7 @@
 use Rattle.std.proofs.Common.{◌≡◌, ◌+◌, ◌*◌, ◌-◌, ◌≤◌, IsTrue}
 use Rattle.tuple_file.specs.Column.{IsNumber}
 use Rattle.tuple_file.specs.Tuples.{rows}
-use Rattle.cursor.specs.Blocks.{HoldsLefts}
+use Rattle.cursor.specs.Blocks.{AreMarked, HoldsLefts}
 use Rattle.cursor.proofs.block.Block.fill.Given as goal
 
 abbrev pub invariant-rows : goal.invariant-rows
@@ -15,6 +15,7 @@ invariant-rows g l = record {
   anew : l.self.seen ≡ 0;
   order : l.cursor.at ≤ l.self.end;
   within : l.self.end ≤ l.end;
+  marked : AreMarked l.self;
   reads : g.V.Files.reads l.files + 6 * l.cursor.at ≤ g.V.Files.reads l.fn.files + 6 * l.self.end;
   lefts : IsTrue (g.V.Files.state l.fn.files).tells → IsNumber l.cursor.left.schema.attributes l.cursor.left_on
       → HoldsLefts l.self l.cursor.left_on (rows (g.V.Files.state l.fn.files).files l.cursor.left);

@@ -18,12 +18,12 @@ slots-init g c =
       kept = refl;
       order = first.order;
       seen = first.seen;
-      within = c.requires.seen;
+      within = c.requires.block.seen;
       reads = omega (arith, first.order);
       told = λ told met. record {
         met = met;
-        none = skips_first b k (rows (g.V.Files.state c.args.files.now).files k.right) c.args.nth c.args.number.now c.requires.held (omega (arith, c.requires.row, c.requires.begin, c.requires.end)) met
-            c.first_of-slot.result first.order first.seen c.requires.seen first.before;
+        none = skips_first b k (rows (g.V.Files.state c.args.files.now).files k.right) c.args.nth c.args.number.now c.requires.held (omega (arith, c.requires.row, c.requires.block.begun, c.requires.inside)) met
+            c.first_of-slot.result first.order first.seen c.requires.block.seen first.before;
       };
     }
 
@@ -77,5 +77,5 @@ returns-clause-finds g c = λ told met.
     let held : number_held b (k.at - b.begin) ≡ Some c.args.number.now = subst (λ (n : ℕ). number_held b n ≡ Some c.args.number.now) c.requires.row c.requires.held in
     finds_none (number_held b (k.at - b.begin)) c.args.number.now k.right_on all k.from k.right_slots held
     ((inv.told told met).none
-    ∙ none_behind b k all c.args.nth c.args.number.now c.requires.held (omega (arith, c.requires.row, c.requires.begin, c.requires.end)) met
+    ∙ none_behind b k all c.args.nth c.args.number.now c.requires.held (omega (arith, c.requires.row, c.requires.block.begun, c.requires.inside)) met
     c.end_of-end.result c.slots.slot (omega (arith, c.slots-test.false)) c.end_of-end.ensures.behind)
