@@ -1,8 +1,9 @@
 -- Keys that do not fall.
-use Rattle.std.proofs.Common.{◌≡◌, ◌≤◌, ◌<◌, ◌+◌, ◌-◌, ◌++◌, ◌∷◌, [], List, length, get_or, map, take, drop, ℕ, zero, suc, ℤ, pos, negsuc, Bool, true, false, Option, Some, None, cond, max, arith, refl, ap, ◌∙◌, sym, subst}
+use Rattle.std.proofs.Common.{◌≡◌, ◌≤◌, ◌<◌, ◌+◌, ◌-◌, ◌++◌, ◌∷◌, [], List, length, get_or, map, take, drop, ℕ, zero, suc, ℤ, pos, negsuc, Bool, true, false, Option, Some, None, cond, max, ⊎_elim, arith, refl, ap, ◌∙◌, sym, subst}
 use Rattle.std.specs.Prelude.{FitsSigned, int_lt, int_le}
 use Rattle.std.specs.Int.{w64}
 use Rattle.std.specs.List.{range_with_len}
+use Rattle.std.proofs.lemmas.Bool.{cases_lt}
 use Rattle.std.proofs.lemmas.Int.{ints}
 use Rattle.std.proofs.lemmas.List.FromFn.{get_or-map-range_with_len, length-map-range_with_len, map-range_with_len_more, take-map-range_with_len}
 use Rattle.std.proofs.lemmas.List.{take-append-drop, append_assoc}
@@ -10,7 +11,7 @@ use Rattle.db_model.specs.declared.schemas.Range.{Range}
 use Rattle.db_model.specs.declared.schemas.Range.TheVariants.{Empty, Between}
 use Rattle.db_model.specs.Plan.{lies_in}
 use Rattle.db_model.specs.Step.{first_fall}
-use Rattle.index_inline.specs.Span.{IsPassedFront, IsSpan, KeysRise, passes_end, is_below, is_above}
+use Rattle.index_inline.specs.Span.{AreAround, IsEndFrom, IsSpan, IsSpanTo, KeysRise, passes_end, is_below, is_above}
 
 -- ---- lists
 
@@ -144,14 +145,49 @@ is_behind : (within : Range) (k : ℤ) → passes_end true within k ≡ false �
 is_behind Empty k e = refl
 is_behind (Between lo hi) k e = grind (arith, ints)
 
-pub span_found : (within : Range) (key : ℕ → ℤ) (slots from to most : ℕ) → IsPassedFront (λ slot. passes_end false within (key slot)) slots from → IsPassedFront (λ slot. passes_end true within (key slot)) slots to → most ≡ max to from → IsSpan within key slots from most
-span_found within key slots from to most first second is =
-    let a = first.within in
-    let b = second.within in
+pub span_found : (within : Range) (key : ℕ → ℤ) (slots from to behind end : ℕ) → from ≤ to → to ≤ end → end ≤ behind → IsSpanTo within key slots from to behind → IsEndFrom within key to behind end → IsSpan within key slots from end
+span_found within key slots from to behind end first second third near far =
+    let last = near.end in
     record {
-      order = omega (arith, is);
-      end = omega (arith, is, a, b);
-      below = λ slot h. is_before within (key slot) (first.passed slot h);
-      inside = λ slot h k. is_between within (key slot) (first.failed slot h (omega (arith, is, a, b, h, k))) (second.passed slot (omega (arith, is, h, k)));
-      above = λ slot h k. is_behind within (key slot) (second.failed slot (omega (arith, is, h)) k);
+      order = omega arith;
+      end = omega (arith, last, third);
+      below = λ slot h. is_before within (key slot) (near.below slot h);
+      inside = λ slot h k. is_between within (key slot) (near.reached slot h (omega (arith, last, third, k)))
+          (⊎_elim (λ l. near.inside slot h l) (λ l. far.passed slot l k) (cases_lt slot to));
+      above = λ slot h k. is_behind within (key slot)
+          (⊎_elim (λ l. far.failed slot h l) (λ l. near.above slot l k) (cases_lt slot behind));
+    }
+
+-- ---- the slots around both ends, and a look at one of them
+
+pub low_raised : (within : Range) (key : ℕ → ℤ) (slots low high behind middle : ℕ) → KeysRise key slots → middle < high → high ≤ behind → passes_end false within (key middle) ≡ true
+    → AreAround within key slots low high behind → AreAround within key slots (middle + 1) high behind
+low_raised within key slots low high behind middle rises h k passed around =
+    let last = around.end in
+    record {
+      end = last;
+      below = λ slot l. passes_up_to key slots middle false within rises (omega (arith, last)) passed slot l;
+      reached = around.reached;
+      above = around.above;
+    }
+
+pub high_lowered : (within : Range) (key : ℕ → ℤ) (slots low high behind middle : ℕ) → KeysRise key slots → passes_end false within (key middle) ≡ false
+    → AreAround within key slots low high behind → AreAround within key slots low middle behind
+high_lowered within key slots low high behind middle rises failed around =
+    record {
+      end = around.end;
+      below = around.below;
+      reached = fails_from key slots middle false within rises failed;
+      above = around.above;
+    }
+
+pub behind_lowered : (within : Range) (key : ℕ → ℤ) (slots low high behind middle : ℕ) → KeysRise key slots → middle ≤ behind → passes_end true within (key middle) ≡ false
+    → AreAround within key slots low high behind → AreAround within key slots low high middle
+behind_lowered within key slots low high behind middle rises h failed around =
+    let last = around.end in
+    record {
+      end = omega (arith, last);
+      below = around.below;
+      reached = around.reached;
+      above = fails_from key slots middle true within rises failed;
     }

@@ -34,8 +34,22 @@ passes_end true (Between lo hi) key = int_le key hi
 abbrev pub KeysRise : (ℕ → ℤ) → ℕ → Type 0
 KeysRise key slots = (i j : ℕ) → i ≤ j → j < slots → int_le (key i) (key j) ≡ true
 
--- a test is passed in the first slots, and in none after them
-pub record IsPassedFront (test : ℕ → Bool) (slots front : ℕ) : Type 0 where
-  pub within : front ≤ slots
-  pub passed : (slot : ℕ) → slot < front → test slot ≡ true
-  pub failed : (slot : ℕ) → front ≤ slot → slot < slots → test slot ≡ false
+-- a range begins from one slot to another, and ends at a third or before
+pub record AreAround (within : Range) (key : ℕ → ℤ) (slots low high behind : ℕ) : Type 0 where
+  pub end : behind ≤ slots
+  pub below : (slot : ℕ) → slot < low → passes_end false within (key slot) ≡ true
+  pub reached : (slot : ℕ) → high ≤ slot → slot < slots → passes_end false within (key slot) ≡ false
+  pub above : (slot : ℕ) → behind ≤ slot → slot < slots → passes_end true within (key slot) ≡ false
+
+-- a range begins at a slot, has those up to another, and ends at a third or before
+pub record IsSpanTo (within : Range) (key : ℕ → ℤ) (slots from to behind : ℕ) : Type 0 where
+  pub end : behind ≤ slots
+  pub below : (slot : ℕ) → slot < from → passes_end false within (key slot) ≡ true
+  pub reached : (slot : ℕ) → from ≤ slot → slot < slots → passes_end false within (key slot) ≡ false
+  pub inside : (slot : ℕ) → from ≤ slot → slot < to → passes_end true within (key slot) ≡ true
+  pub above : (slot : ℕ) → behind ≤ slot → slot < slots → passes_end true within (key slot) ≡ false
+
+-- of the slots from one on and below another, those below the end of a range are not above it, and the others are
+pub record IsEndFrom (within : Range) (key : ℕ → ℤ) (from to end : ℕ) : Type 0 where
+  pub passed : (slot : ℕ) → from ≤ slot → slot < end → passes_end true within (key slot) ≡ true
+  pub failed : (slot : ℕ) → end ≤ slot → slot < to → passes_end true within (key slot) ≡ false

@@ -3,6 +3,7 @@
 
 mod halving;
 mod order;
+mod piece;
 mod spans;
 
 pub use order::ordered;

@@ -5,13 +5,14 @@ ghost use Rattle.db_model.specs.Cost.{bits};
 ghost use Rattle.index_inline.specs.Keys.{NeverFalls, keys_of};
 ghost use Rattle.index_inline.specs.Span.{IsSpan};
 
-use crate::halving::count_before;
+use crate::halving::{end_between, narrowed};
+use crate::piece::{look_near, slots_at_once};
 use afl_base::{Failed, Files, KeyColumn};
 use db_model::Range as Keys;
 
 /// The first slot whose key is not below the range, and one past the last whose key is not above it;
-/// both are the same where no key lies in the range. Each end is found by halving. Where the keys
-/// fall, or are not told, the slots are any.
+/// both are the same where no key lies in the range. One halving serves both ends, and the keys of the
+/// last few slots are read at once. Where the keys fall, or are not told, the slots are any.
 #[tactic(auto, using(crate::proofs::Falls::rises))]
 pub fn range<V: Files>(
     files: &mut V,
@@ -29,7 +30,9 @@ pub fn range<V: Files>(
     ensures reads { V.reads files.new ≤ V.reads files.old + 6 * (2 * bits slots) }
     ensures frame { OnlyReads V.state V.lent V.reads V.faults files.old files.new result }
 {
-    let from = count_before(files, column, slots, false, within)?;
-    let to = count_before(files, column, slots, true, within)?;
-    Ok((from, to.max(from)))
+    let few = slots_at_once(column);
+    let around = narrowed(files, column, slots, few, within)?;
+    let near = look_near(files, column, around, few, within)?;
+    let to = end_between(files, column, near.to, near.behind, within)?;
+    Ok((near.from, to))
 }

@@ -62,3 +62,21 @@ past bytes rest pair key from holds short none = ap (filter (is_wanted key from)
   where
     not_in : (n l p : ℕ) → (p < l → n ≡ (get_or rest p no_pair).slot + 1) → n ≡ 0 → l ≤ p
     not_in n l p some z = ⊎_elim (λ (x : l ≤ p). x) (λ (x : p < l). let s = some x in absurd (omega (arith, s, z))) (order l p)
+
+-- a pair that is not wanted adds nothing, be it empty or not
+pub passed_any : (bytes : List ℕ) (rest : List Pair) (pair : ℕ) (key : ℤ) (from : ℕ) → HoldsPairs bytes 0 rest → pair < 32 → wants_at bytes key from pair ≡ false →
+    filter (is_wanted key from) (drop pair rest) ≡ filter (is_wanted key from) (drop (pair + 1) rest)
+passed_any bytes rest pair key from holds short other =
+    ⊎_elim
+    (λ (none : length rest ≤ pair). ap (filter (is_wanted key from)) (drop_all pair rest none) ∙ sym (ap (filter (is_wanted key from)) (drop_all (pair + 1) rest (omega arith))))
+    (λ (some : pair < length rest). passed bytes rest pair key from holds short some other)
+    (order (length rest) pair)
+
+-- a bucket whose last pair is empty is not full, and no pair comes behind it
+pub none_behind : (bytes : List ℕ) (rest : List Pair) (key : ℤ) (from : ℕ) → HoldsPairs bytes 0 rest → slot_at bytes 0 31 ≡ 0 → filter (is_wanted key from) (drop 32 rest) ≡ []
+none_behind bytes rest key from holds none =
+    let short : 31 < 32 = omega arith in
+    ⊎_elim
+    (λ (few : length rest ≤ 31). ap (filter (is_wanted key from)) (drop_all 32 rest (omega arith)))
+    (λ (many : 31 < length rest). let there = holds.slot 31 short many in absurd (omega (arith, there, none)))
+    (order (length rest) 31)

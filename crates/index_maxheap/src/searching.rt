@@ -59,7 +59,8 @@ fn is_wanted(bytes: &[u8; BUCKET_SIZE], pair: u8, key: &i32, from: u16) -> bool
     has_key(bytes, pair, key) && from < slot_in(bytes, pair)
 }
 
-// Looks for a key in a bucket, from a pair on, and passes slots that are below one.
+// Looks for a key in a bucket, from a pair on, and passes slots that are below one. The pairs are filled in
+// order, and an empty one is never wanted: so only the last tells whether the bucket is full.
 fn scan(bytes: &[u8; BUCKET_SIZE], start: u8, key: &i32, from: u16) -> Scanned
     requires { start ≤ 32 }
     ensures short { IsShort result from }
@@ -67,16 +68,17 @@ fn scan(bytes: &[u8; BUCKET_SIZE], start: u8, key: &i32, from: u16) -> Scanned
         → Scans result key.now from rest start }
 {
     for pair in start..32 {
-        let number = slot_in(bytes, pair);
-        if number == 0 {
-            return Scanned::End;
-        }
         if is_wanted(bytes, pair, key, from) {
+            let number = slot_in(bytes, pair);
             return Scanned::Found {
                 pair,
                 slot: number - 1,
             };
         }
+    }
+    let last = slot_in(bytes, 31);
+    if last == 0 {
+        return Scanned::End;
     }
     Scanned::Passed
 }

@@ -6,4 +6,4 @@ use Rattle.index_tree.specs.TreeFile.{HoldsPairs}
 use Rattle.index_maxheap.proofs.searching.scan.Given as goal
 
 abbrev pub invariant-loop-pair : goal.invariant-loop-pair
-invariant-loop-pair l = (rest : List Pair) → HoldsPairs l.bytes 0 rest → l.start ≤ length rest → (l.pair ≤ length rest) × (filter (is_wanted l.key l.from) (drop l.start rest) ≡ filter (is_wanted l.key l.from) (drop l.pair rest))
+invariant-loop-pair l = (rest : List Pair) → HoldsPairs l.bytes 0 rest → l.start ≤ length rest → filter (is_wanted l.key l.from) (drop l.start rest) ≡ filter (is_wanted l.key l.from) (drop l.pair rest)
