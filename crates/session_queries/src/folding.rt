@@ -44,7 +44,9 @@ pub fn push_all(items: &[(Agg, u8)], attributes: &[Attribute], row: &[u8], talli
     }
 }
 
-fn value_or_zero(attributes: &[Attribute], row: &[u8], place: u8) -> Value
+/// The value at a place of a row, 0 where it has none.
+#[inline(always)]
+pub fn value_or_zero(attributes: &[Attribute], row: &[u8], place: u8) -> Value
     requires { fields_length attributes.now ≤ length row.now }
     ensures { result ≡ value_at (tuple_of attributes.now row.now) place }
 {

@@ -6,6 +6,7 @@ mod asking;
 mod finding;
 mod folding;
 mod joining;
+mod listed;
 mod passing;
 mod selecting;
 mod tally;

@@ -24,14 +24,15 @@ ghost use Rattle.session_queries.specs.Finds.{HasEightSlots, IsRelationFound, Is
 ghost use Rattle.session_queries.specs.Replies.{WroteNext, rows_left};
 
 use crate::finding::{Found, find};
+use crate::listed::write_listed;
 use afl_base::{Fault, Files, Sink};
 use cursor::SelectCursor;
 use db_model::{Condition, Few, Ident, Idents, Refusal, Tuple};
 use index_set::HashTables;
-use reply_text::{write_projected, write_rows};
+use reply_text::write_rows;
 use session_model::{Held, Outcome};
 use session_plans::{SelectPlan, plan_select};
-use tuple_file::{ROW_SIZE, get_tuple};
+use tuple_file::ROW_SIZE;
 
 /// A relation, and what a SELECT asks of it.
 #[derive(Drop)]
@@ -145,8 +146,8 @@ fn select_rows<V: Files, K: Sink>(
     }
 }
 
-// Writes the next row, and answers false exactly where there is none. Its bytes stand in `row` and its
-// tuple in `tuple`, which are kept from row to row.
+// Writes the next row, and answers false exactly where there is none. Its bytes stand in `row`, and
+// what is listed of them in `tuple`; both are kept from row to row.
 fn select_next<V: Files, K: Sink>(
     files: &mut V,
     tables: &HashTables,
@@ -183,11 +184,11 @@ fn select_next<V: Files, K: Sink>(
     ensures frame { Recites V.Files K.Sink files.old files.new out.old out.new result }
 {
     match cursor.next_bytes(files, tables, row) {
-        Ok(Some(_)) => get_tuple(&cursor.tuples.schema.attributes, row, tuple),
+        Ok(Some(_)) => {}
         Ok(None) => return Ok(false),
         Err(_) => return Err(Fault::Flash),
     }
-    match write_projected(out, places.as_slice(), tuple) {
+    match write_listed(out, places, &cursor.tuples.schema.attributes, row, tuple) {
         Ok(()) => Ok(true),
         Err(_) => Err(Fault::Sink),
     }
