@@ -2,7 +2,7 @@
 
 use crate::scripts::{Asks, Case, all_are_put_right};
 use std::test::Fail;
-use test_texts::Part;
+use test_steps::Part;
 
 const MADE: &[Part] = &[
     Part::Once("CREATE RELATION s;CREATE ATTRIBUTE k DOMAIN LONG IN s;"),

@@ -6,7 +6,7 @@ use crate::running::{NO_CUT, erased, run};
 use crate::stories::{Asked, Story, tell};
 use std::alloc::{AllocError, Global};
 use std::test::Fail;
-use test_texts::{Part, joined};
+use test_steps::{Part, joined};
 
 /// What is asked for and cut, over a flash on which a script was carried out.
 #[derive(Drop)]

@@ -3,7 +3,7 @@ ghost use Rattle.std.specs.Prelude.{◌≡◌, OnOk, None};
 use crate::trees::{built_tree, put_key};
 use afl_base::{FileError, FileId, Files, Kind};
 use afl_sim::PlainFiles;
-use file_steps::{appended, new_file, read_from, size_of};
+use test_steps::{appended, new_file, read_from, size_of};
 
 // The two bytes of one of six keys; the first four share three digits of four.
 fn key_for(seed: u32) -> (u8, u8) {

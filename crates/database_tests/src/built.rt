@@ -4,8 +4,8 @@ use crate::trees::{buckets, built_tree, finds_all, is_tree};
 use crate::volumes::mounted;
 use afl_base::{FileError, FileId, Files, Kind, get_u16};
 use afl_sim::{CutFlash, MemFlash, PlainFiles};
-use file_steps::{appended, new_file, read_from, size_of};
 use std::test::Fail;
+use test_steps::{appended, new_file, read_from, size_of};
 
 // 256 rows of one key.
 fn rows_of(low: u8, high: u8) -> [u8; 768] {

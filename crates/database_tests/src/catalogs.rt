@@ -9,7 +9,7 @@ use catalog::{
     room_for, rows_file,
 };
 use db_model::{Attribute, Attributes, Domain, Ident, IndexKind, Schema};
-use file_steps::{appended, created, new_file, read_from, size_of};
+use test_steps::{appended, created, new_file, read_from, size_of};
 
 // Whether a file is one of 6 pages, empty or as long as a catalog.
 fn is_catalog<V: Files>(files: &V, cat: FileId) -> bool

@@ -4,8 +4,8 @@ use crate::trees::{built_tree, finds_all, put_key};
 use crate::volumes::mounted;
 use afl_base::{FileError, FileId, Files, Kind};
 use afl_sim::{MemFlash, PlainFiles};
-use file_steps::{new_file, size_of};
 use std::test::Fail;
+use test_steps::{new_file, size_of};
 
 // One of six keys; the first four share three digits of four.
 fn key_for(seed: u32) -> i32 {

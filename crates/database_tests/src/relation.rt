@@ -12,9 +12,9 @@ ghost use Rattle.database_tests.specs.Standing.{AreOurs, StandsOn, IsOurs, IsSta
 use crate::volumes::empty_file;
 use afl_base::{FileId, Files, Name, SlotNo};
 use db_model::{Attribute, Attributes, Domain, Ident, Schema, Tuple};
-use file_steps::is_free;
 use index_set::{Access, HashTables, IndexInfo, Indexes, TableId, insert_all, prepare_all};
 use std::test::Fail;
+use test_steps::is_free;
 use tuple_file::Tuples;
 
 /// Rows of 20 bytes: k INT, l INT, r INT, s STRING(13). The keys of l are in a tree, those of r in the

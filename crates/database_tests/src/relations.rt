@@ -5,7 +5,7 @@ ghost use Rattle.tuple_file.specs.Tuples.{HoldsRows};
 use afl_base::{FileError, FileId, Files, Kind, SlotNo};
 use afl_sim::PlainFiles;
 use db_model::{Attribute, Attributes, Domain, Ident, Schema, Text, Tuple, Value, row_length};
-use file_steps::{appended, new_file, read_from, size_of};
+use test_steps::{appended, new_file, read_from, size_of};
 use tuple_file::{Tuples, get_tuple};
 
 // Whether the file has rows of the relation, each as it may be.

@@ -5,9 +5,9 @@ ghost use Rattle.std.specs.Prelude.{◌≡◌, ◌<◌, ◌≤◌, ◌*◌, IsTr
 ghost use Rattle.afl_base.specs.Files.{IsLive, IsUnnamed, size_at, used};
 
 use afl_base::{FileError, FileId, Files, KeyColumn, Kind, Name, SlotNo};
-use file_steps::is_free;
 use index_maxheap::{Found, Place, buckets_for, build, insert, next, room, verify};
 use index_tree::a_tree_ends_in_a_mark;
+use test_steps::is_free;
 
 // The column of rows that have a key of two bytes and then the byte 1.
 fn column(rows: FileId) -> KeyColumn

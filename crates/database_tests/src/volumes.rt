@@ -7,8 +7,8 @@ ghost use Rattle.database_tests.specs.Standing.{KeepsEachFile};
 
 use afl_base::{Failed, FileId, Files, Flash, Kind, Name};
 use coffee_volume::{MountError, Volume};
-use file_steps::is_free;
 use std::test::Fail;
+use test_steps::is_free;
 
 /// The files of a flash whose image keeps its rules.
 pub fn mounted<F: Flash + Drop>(flash: F) -> Result<Volume<F>, Fail>

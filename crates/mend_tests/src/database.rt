@@ -4,7 +4,7 @@ ghost use Rattle.std.specs.Prelude.{◌≡◌, None, OnOk};
 ghost use Rattle.afl_base.specs.Files.{IsKind};
 
 use afl_base::{FileError, Files, Kind};
-use file_steps::{appended, new_file};
+use test_steps::{appended, new_file};
 
 /// The bytes of a catalog of version 2 without relations and indexes.
 pub fn no_relation() -> [u8; 1480] {

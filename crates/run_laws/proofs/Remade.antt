@@ -14,7 +14,7 @@ use Rattle.image_model.specs.Images.{IsSound, base}
 
 -- the sink holds the script then
 pub dumped_script : (old new : World) → Dumps old new → new.held ≡ Some (script (base old.image))
-dumped_script old new dumps = (ended_with Dump old new dumps.ends).1.written ∙ ap (λ held. append_known held (script (base old.image))) dumps.empty
+dumped_script old new dumps = (ended_with Dump old new dumps.ends).1.1 ∙ ap (λ held. append_known held (script (base old.image))) dumps.empty
 
 pub made_again : ((db : Database) (old new : World) → IsSoundDatabase db → old.left ≡ Some (script db) → base old.image ≡ empty_database → LeftBy 0 Run old new → Remakes db old new)
     → ((sectors : ℕ) → base (replicate (4096 * sectors) 0) ≡ empty_database)

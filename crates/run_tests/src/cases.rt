@@ -3,7 +3,7 @@
 use crate::running::{MANY, erased, run, text};
 use std::alloc::Global;
 use std::test::Fail;
-use test_texts::Part;
+use test_steps::Part;
 
 /// A script, its replies, and what they show.
 #[derive(Drop)]

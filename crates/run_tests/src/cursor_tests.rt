@@ -3,7 +3,7 @@
 use crate::cases::{Case, expect_each, expect_in_turn};
 use crate::running::{MANY, erased};
 use std::test::Fail;
-use test_texts::{ONE, Part, TWO};
+use test_steps::{ONE, Part, TWO};
 
 const FETCHES: &str =
     "INSERT (1, 'a') INTO s; OPEN 1 SELECT k FROM s; INSERT (2, 'b') INTO s; FETCH 1; FETCH 1; \

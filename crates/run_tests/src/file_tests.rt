@@ -5,7 +5,7 @@ use crate::image::{begins, has_size, is_erased_from, is_unlogged, page_with_log}
 use crate::running::{MANY, erased, run, text};
 use std::alloc::Global;
 use std::test::Fail;
-use test_texts::{ONE, Part};
+use test_steps::{ONE, Part};
 
 const MARKED: Case = Case {
     shows: "thirty of forty rows are marked",

@@ -4,7 +4,7 @@ use crate::cases::{Case, expect_on, show};
 use crate::running::{MANY, ask, erased};
 use std::alloc::Global;
 use std::test::Fail;
-use test_texts::Part;
+use test_steps::Part;
 
 // Whether the generated commands of these words over an image are counted by just this line.
 fn counts(alloc: Global, seed: &str, commands: &str, image: &mut [u8], line: &[u8]) -> bool {

@@ -6,7 +6,7 @@ use crate::running::{MANY, copied, erased, run, text};
 use crate::samples::{BY_MINUTE, SEVENS, THE_TEN, day, made_of};
 use std::alloc::Global;
 use std::test::Fail;
-use test_texts::{ONE, Part, TWO};
+use test_steps::{ONE, Part, TWO};
 
 const DAY_REPLIES: &[Part] = &[Part::Often("ok\n", 1_445), Part::Once(THE_TEN)];
 

@@ -2,7 +2,7 @@
 
 use crate::cases::{Case, expect_each};
 use std::test::Fail;
-use test_texts::{ONE, Part};
+use test_steps::{ONE, Part};
 
 const EIGHT: &str =
     "CREATE RELATION s; CREATE ATTRIBUTE a DOMAIN INT IN s; CREATE ATTRIBUTE b DOMAIN INT IN s; \

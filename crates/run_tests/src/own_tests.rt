@@ -8,7 +8,7 @@ use crate::strangers::{
 };
 use std::alloc::Global;
 use std::test::Fail;
-use test_texts::{ONE, Part};
+use test_steps::{ONE, Part};
 
 const CASES: &[Case] = &[
     // The name `T8`.

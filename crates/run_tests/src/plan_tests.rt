@@ -6,7 +6,7 @@ use crate::running::{MANY, ask, copied, erased, text};
 use crate::samples::{BY_MINUTE, SEVENS, day, made_by, made_of};
 use std::alloc::Global;
 use std::test::Fail;
-use test_texts::push_often;
+use test_steps::push_often;
 
 // Whether these words are answered by just this line, which leaves the image.
 fn answers(alloc: Global, image: &mut [u8], words: &[&str], line: &[u8]) -> bool {

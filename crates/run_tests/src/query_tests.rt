@@ -2,7 +2,7 @@
 
 use crate::cases::{Case, expect_each};
 use std::test::Fail;
-use test_texts::{ONE, Part};
+use test_steps::{ONE, Part};
 
 // Two relations with an attribute of one name, and three rows each. Twelve commands.
 const PAIR: &str =

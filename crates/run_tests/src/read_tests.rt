@@ -5,7 +5,7 @@ use crate::running::{MANY, erased, run, text};
 use crate::samples::{BY_MINUTE, THE_TEN, day};
 use std::alloc::Global;
 use std::test::Fail;
-use test_texts::Part;
+use test_steps::Part;
 
 // How often a run reads that makes a sensor's day over an erased image, and asks this many times after the
 // same ten minutes, where it has status 0 and ends with their replies.

@@ -4,7 +4,7 @@ use crate::cases::{Case, expect_each, expect_in_turn, expect_on, show};
 use crate::image::{has_contents, is_erased_from};
 use crate::running::{MANY, erased};
 use std::test::Fail;
-use test_texts::{ONE, Part, TWO};
+use test_steps::{ONE, Part, TWO};
 
 const NOTHING: Case = Case {
     shows: "an empty script has no reply",

@@ -6,7 +6,7 @@ use afl_sim::{MemFlash, MemSink, MemSource};
 use antelope_run::top;
 use std::alloc::{AllocError, Global};
 use std::test::Fail;
-use test_texts::{Part, joined};
+use test_steps::{Part, joined};
 
 /// The bytes of a sector.
 pub const SECTOR: usize = 4_096;

@@ -2,7 +2,7 @@
 
 use crate::running::{MANY, erased, run, text};
 use std::alloc::{AllocError, Global};
-use test_texts::{ONE, Part, TWO, push_number, push_often};
+use test_steps::{ONE, Part, TWO, push_number, push_often};
 
 const SAMPLES: &str = "CREATE RELATION samples; CREATE ATTRIBUTE minute DOMAIN LONG IN samples; \
     CREATE ATTRIBUTE node DOMAIN INT IN samples; CREATE ATTRIBUTE value DOMAIN INT IN samples; ";

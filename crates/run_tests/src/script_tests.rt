@@ -2,7 +2,7 @@
 
 use crate::cases::{Case, expect_each};
 use std::test::Fail;
-use test_texts::{ONE, Part, TWO};
+use test_steps::{ONE, Part, TWO};
 
 const CUT: &[Case] = &[
     Case {

@@ -2,7 +2,7 @@
 
 use crate::running::text;
 use std::alloc::{AllocError, Global};
-use test_texts::{Part, push_number, push_often};
+use test_steps::{Part, push_number, push_often};
 
 const SCRIPT: &[Part] = &[
     Part::Once("CREATE RELATION n;CREATE ATTRIBUTE v DOMAIN INT IN n;"),

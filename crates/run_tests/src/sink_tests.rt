@@ -7,7 +7,7 @@ use crate::scripts::{count, lines, replies, rows_after, script};
 use crate::strangers::set;
 use std::alloc::Global;
 use std::test::Fail;
-use test_texts::Part;
+use test_steps::Part;
 
 const COUNT: &[u8] = b"SELECT COUNT(v) FROM n;";
 

@@ -4,7 +4,7 @@ use crate::cases::show;
 use crate::running::{MANY, copied, erased, none_is_wrong, run, text};
 use std::alloc::Global;
 use std::test::Fail;
-use test_texts::Part;
+use test_steps::Part;
 
 /// One byte of an image: its page, its place in the page, and its value.
 pub type Byte = (u16, u8, u8);

@@ -10,7 +10,7 @@ use afl_sim::MemFlash;
 use coffee_volume::{MountError, Volume};
 use std::alloc::Global;
 use std::test::Fail;
-use test_texts::{ONE, Part};
+use test_steps::{ONE, Part};
 
 // Puts a byte into a growing file. It answers whether the file has it.
 fn put_byte<V: Files>(files: &mut V, name: Name, at: u32, byte: u8) -> Result<bool, FileError>

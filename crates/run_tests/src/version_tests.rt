@@ -5,7 +5,7 @@ use crate::image::has_size;
 use crate::running::{MANY, copied, erased};
 use std::alloc::Global;
 use std::test::Fail;
-use test_texts::Part;
+use test_steps::Part;
 
 // Sets a byte of an image, where it has that byte.
 fn set(image: &mut [u8], at: usize, byte: u8) {

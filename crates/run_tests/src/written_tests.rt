@@ -5,7 +5,7 @@ use crate::running::{MANY, ask, copied, erased, text};
 use crate::samples::{SEVENS, TWO_ROWS, made_by, made_of};
 use std::alloc::Global;
 use std::test::Fail;
-use test_texts::Part;
+use test_steps::Part;
 
 // Whether an image is written as just this script, and stays as it is.
 fn dumps(alloc: Global, image: &mut [u8], script: &[u8]) -> bool {

@@ -1,7 +1,7 @@
 //! Bytes, of which there are none where there is no memory for them.
 
 use std::alloc::{AllocError, Global};
-use test_texts::{Part, joined};
+use test_steps::{Part, joined};
 
 fn of_zeros(alloc: Global, bytes: usize) -> Result<Vec<u8>, AllocError> {
     vec![in alloc; 0u8; bytes]

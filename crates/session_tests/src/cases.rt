@@ -8,7 +8,7 @@ use afl_base::Files;
 use afl_sim::PlainFiles;
 use std::alloc::Global;
 use std::test::Fail;
-use test_texts::Part;
+use test_steps::Part;
 
 /// The bytes of 256 sectors.
 pub const LARGE: usize = 1_048_576;

@@ -10,7 +10,7 @@ use afl_base::{Files, Name};
 use afl_sim::PlainFiles;
 use std::alloc::{AllocError, Global};
 use std::test::Fail;
-use test_texts::{ONE, Part};
+use test_steps::{ONE, Part};
 
 // The bytes of the file of a name.
 fn read_file<V: Files>(alloc: Global, files: &mut V, name: Name) -> Result<Vec<u8>, AllocError> {

@@ -5,7 +5,7 @@ use crate::cases::{Case, LARGE, expect_each_on_flash, show};
 use crate::told::{told, volume_over};
 use std::alloc::{AllocError, Global};
 use std::test::Fail;
-use test_texts::{ONE, Part, push_number, push_often};
+use test_steps::{ONE, Part, push_number, push_often};
 
 const GROWN: &[Case] = &[
     Case {

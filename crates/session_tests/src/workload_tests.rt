@@ -11,7 +11,7 @@ use antelope_engine::{Outcome, Session};
 use db_model::Command;
 use std::alloc::{AllocError, Global};
 use std::test::Fail;
-use test_texts::{push_number, push_often};
+use test_steps::{push_number, push_often};
 
 // What a number of commands came to.
 #[derive(Clone, Copy, Debug, Default, PartialEq, Eq)]

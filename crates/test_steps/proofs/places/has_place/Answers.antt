@@ -1,5 +1,5 @@
 use Rattle.std.proofs.Common.{rules, ◌<◌}
-use Rattle.file_steps.proofs.places.has_place.Goals as goal
+use Rattle.test_steps.proofs.places.has_place.Goals as goal
 use Rattle.afl_base.proofs.UsedLaws.{used_below_32}
 
 pub returns-in-Some : goal.returns-in-Some
