@@ -83,6 +83,7 @@ readable_at state tables t tree s n few = (
     narrow = tt;
     fields = λ slot below. column_field state t 0 slot s.ours.k s.holds (omega (arith, below, few));
     tree = tt;
+    table = tt;
   },
   (
     record {
@@ -91,6 +92,7 @@ readable_at state tables t tree s n few = (
       narrow = s.ours.narrow_l t refl;
       fields = λ slot below. column_field state t 1 slot s.ours.l s.holds (omega (arith, below, few));
       tree = s.live;
+      table = tt;
     },
     (
       record {
@@ -99,6 +101,7 @@ readable_at state tables t tree s n few = (
         narrow = s.ours.narrow_r t refl;
         fields = λ slot below. column_field state t 2 slot s.ours.r s.holds (omega (arith, below, few));
         tree = tt;
+        table = omega arith;
       },
       tt,
     ),
@@ -175,7 +178,7 @@ module _ (a b c d e : State) (before after : Tables) (t : Tuples) (tree slot tot
     live = held.1.0.0;
     kind = held.1.0.1;
     apart = s.apart;
-    table = held.1.1.0 ∙ sym (count more);
+    table = held.1.1.0.1 ∙ sym (count more);
     idle = keys.draft ∙ row.draft ∙ second.spares.draft ∙ first.draft ∙ s.idle;
   }
 

@@ -21,7 +21,7 @@ use Rattle.db_model.specs.declared.schemas.IndexKind.TheVariants.{Inline, MaxHea
 use Rattle.db_model.specs.declared.values.Value.{Value}
 use Rattle.db_model.specs.Catalog.{Index, IsDomain}
 use Rattle.db_model.specs.Cond.{Cond, condition_of}
-use Rattle.db_model.specs.Database.{Relation, Cursor, Database, empty_database, used_things, free_from, relation_from, relation_named, with_relation, with_index, index_slot, indexes_of, is_inline, is_hash_table, with_cursor, is_among}
+use Rattle.db_model.specs.Database.{Relation, Cursor, Database, empty_database, used_things, free_from, relation_from, relation_named, with_relation, with_index, index_slot, indexes_of, is_inline, is_hash_table, with_cursor, is_among, most_tables}
 use Rattle.db_model.specs.Item.{place_of}
 use Rattle.db_model.specs.Names.{is_name}
 use Rattle.db_model.specs.Refusing.{◌>>◌, refuse_if, refuse_found}
@@ -151,7 +151,7 @@ out_relation db slot r s at unindexed unread = record {
 
 put_index : (db : Database) (slot : ℕ) (index : Index) → IsSoundDatabase db → get_or db.indexes slot None ≡ None → IsSoundIndex db.relations index
     → ((k : ℕ) (other : Index) → StandsIn db.indexes k other → other.relation ≡ index.relation → other.attribute ≡ index.attribute → ⊥)
-    → one (is_hash_table index) + length (filter is_hash_table (used_things db.indexes)) ≤ 2
+    → one (is_hash_table index) + length (filter is_hash_table (used_things db.indexes)) ≤ most_tables
     → IsSoundDatabase (with_index db slot (Some index))
 put_index db slot index s free sound apart few = record {
   version = s.version;
@@ -447,7 +447,7 @@ sound_relation db _ _ _ _ _ (Removes name t e unread none) b s =
 -- ---- CREATE INDEX, REMOVE INDEX
 
 kind_one : (kind : IndexKind) (db : Database) (ks : List ℤ) (relation attribute : ℕ) → refuse_kind kind db ks ≡ Ok tt → IsSoundDatabase db
-    → SuitKind kind ks × (one (is_hash_table (record { kind = kind; relation = relation; attribute = attribute })) + length (filter is_hash_table (used_things db.indexes)) ≤ 2)
+    → SuitKind kind ks × (one (is_hash_table (record { kind = kind; relation = relation; attribute = attribute })) + length (filter is_hash_table (used_things db.indexes)) ≤ most_tables)
 kind_one Inline db ks relation attribute e s = let few = s.few_tables in (by_fall (first_fall ks) e, omega (arith, few))
   where
     by_fall : (o : Option ℤ) → refuse_found o no.NotOrdered ≡ Ok tt → o ≡ None
@@ -455,15 +455,15 @@ kind_one Inline db ks relation attribute e s = let few = s.few_tables in (by_fal
     by_fall (Some z) e = absurd (err_ok e)
 kind_one MaxHeap db ks relation attribute e s = let few = s.few_tables in (tt, omega (arith, few))
 kind_one MemHash db ks relation attribute e s =
-    by_tests (nat_le 2 (length (filter is_hash_table (used_things db.indexes)))) (nat_lt 2048 (length ks)) refl refl e
+    by_tests (nat_le most_tables (length (filter is_hash_table (used_things db.indexes)))) (nat_lt 2048 (length ks)) refl refl e
   where
-    by_tests : (a b : Bool) → nat_le 2 (length (filter is_hash_table (used_things db.indexes))) ≡ a → nat_lt 2048 (length ks) ≡ b
-        → ◌>>◌ (refuse_if a (no.Full pool.HashTables 2)) (refuse_if b (no.Full pool.HashEntries 2048)) ≡ Ok tt
-        → (length ks ≤ 2048) × (1 + length (filter is_hash_table (used_things db.indexes)) ≤ 2)
+    by_tests : (a b : Bool) → nat_le most_tables (length (filter is_hash_table (used_things db.indexes))) ≡ a → nat_lt 2048 (length ks) ≡ b
+        → ◌>>◌ (refuse_if a (no.Full pool.HashTables most_tables)) (refuse_if b (no.Full pool.HashEntries 2048)) ≡ Ok tt
+        → (length ks ≤ 2048) × (1 + length (filter is_hash_table (used_things db.indexes)) ≤ most_tables)
     by_tests true b f g e = absurd (err_ok e)
     by_tests false true f g e = absurd (err_ok e)
     by_tests false false f g e =
-        let tables : length (filter is_hash_table (used_things db.indexes)) < 2 = grind (arith, nat_tests, f) in
+        let tables : length (filter is_hash_table (used_things db.indexes)) < most_tables = grind (arith, nat_tests, f) in
         let entries : length ks ≤ 2048 = grind (arith, nat_tests, g) in
         (entries, omega (arith, tables))
 

@@ -161,7 +161,7 @@ tables-append (x ∷ xs) ys = by_test (is_hash_table x) (tables-append xs ys)
     by_test true h = omega (arith, h)
     by_test false h = h
 
-suits_kind : (index : Index) (before rest : List Index) (rows : List Row) → length (filter is_hash_table (before ++ index ∷ rest)) ≤ 2 → SuitKind index.kind (keys index.attribute rows) → SuitsKind index.kind before index.attribute rows
+suits_kind : (index : Index) (before rest : List Index) (rows : List Row) → length (filter is_hash_table (before ++ index ∷ rest)) ≤ most_tables → SuitKind index.kind (keys index.attribute rows) → SuitsKind index.kind before index.attribute rows
 suits_kind index before rest rows few h = by_kind index.kind refl h
   where
     by_kind : (kind : IndexKind) → index.kind ≡ kind → SuitKind kind (keys index.attribute rows) → SuitsKind kind before index.attribute rows
@@ -174,7 +174,7 @@ suits_kind index before rest rows few h = by_kind index.kind refl h
         let many = length-map rows (λ row. key_of (slice_get row.tuple index.attribute)) in
         (omega (arith, counted, more, few), omega (arith, many, i))
 
-index_facts : (relations : List (Option Relation)) (before rest : List Index) (index : Index) → length (filter is_hash_table (before ++ index ∷ rest)) ≤ 2
+index_facts : (relations : List (Option Relation)) (before rest : List Index) (index : Index) → length (filter is_hash_table (before ++ index ∷ rest)) ≤ most_tables
     → list_any (is_on index.relation index.attribute) before ≡ false → IsSoundIndex relations index → IndexFacts relations before index
 index_facts relations before rest index few alone is = record {
   relation = is.relation;
@@ -188,7 +188,7 @@ index_facts relations before rest index few alone is = record {
 
 all_index_facts : (relations : List (Option Relation)) (before : List Index) (slots : List (Option Index))
     → ((k : ℕ) (index : Index) → StandsIn slots k index → IsSoundIndex relations index) → ArePlaced slots → AreElsewhere before slots
-    → length (filter is_hash_table (before ++ used_things slots)) ≤ 2 → AllIndexFacts relations before (used_things slots)
+    → length (filter is_hash_table (before ++ used_things slots)) ≤ most_tables → AllIndexFacts relations before (used_things slots)
 all_index_facts relations before [] each placed elsewhere few = tt
 all_index_facts relations before (None ∷ slots) each placed elsewhere few =
     all_index_facts relations before slots (λ k index h. each (suc k) index h) (λ j k a b h i e f. suc_same (placed (suc j) (suc k) a b h i e f)) (λ k index h. elsewhere (suc k) index h) few
@@ -196,7 +196,7 @@ all_index_facts relations before (Some index ∷ slots) each placed elsewhere fe
   index_facts relations before (used_things slots) index few (elsewhere 0 index refl) (each 0 index refl),
   all_index_facts relations (before ++ index ∷ []) slots (λ k other h. each (suc k) other h) (λ j k a b h i e f. suc_same (placed (suc j) (suc k) a b h i e f))
       (elsewhere_more before index slots placed elsewhere)
-      (subst (λ xs. length (filter is_hash_table xs) ≤ 2) (sym (append_assoc before (index ∷ []) (used_things slots))) few),
+      (subst (λ xs. length (filter is_hash_table xs) ≤ most_tables) (sym (append_assoc before (index ∷ []) (used_things slots))) few),
 )
 
 -- ---- databases

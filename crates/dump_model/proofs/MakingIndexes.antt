@@ -14,7 +14,7 @@ use Rattle.db_model.specs.declared.schemas.Attribute.{Attribute}
 use Rattle.db_model.specs.declared.schemas.IndexKind.{IndexKind}
 use Rattle.db_model.specs.declared.schemas.IndexKind.TheVariants.{Inline, MaxHeap, MemHash}
 use Rattle.db_model.specs.Catalog.{Index}
-use Rattle.db_model.specs.Database.{Relation, Database, used_things, free_from, is_among, is_on, is_hash_table, relation_from, index_from, index_slot}
+use Rattle.db_model.specs.Database.{Relation, Database, used_things, free_from, is_among, is_on, is_hash_table, relation_from, index_from, index_slot, most_tables}
 use Rattle.db_model.specs.Item.{place_from, place_of}
 use Rattle.db_model.specs.Refusing.{◌>>=◌, ◌>>◌, refuse_if, refuse_found, found_or}
 use Rattle.db_model.specs.Row.{Row}
@@ -204,7 +204,7 @@ not_refused MemHash slots before place rows rs h =
     let moved : List Index = map (moved_index slots) before in
     let same : length (filter is_hash_table (used_things (slots_for 8 moved))) ≡ length (filter is_hash_table before) =
     ap (λ xs. length (filter is_hash_table xs)) (used_front moved (8 - length moved)) ∙ ap length (tables_moved slots before) ∙ length-map (filter is_hash_table before) (moved_index slots) in
-    let few : nat_le 2 (length (filter is_hash_table (used_things (slots_for 8 moved)))) ≡ false = let e = h.0 in grind (arith, nat_tests) in
+    let few : nat_le most_tables (length (filter is_hash_table (used_things (slots_for 8 moved)))) ≡ false = let e = h.0 in grind (arith, nat_tests) in
     let many = length-map (kept_rows rows) (λ row. key_of (slice_get row.tuple place)) in
     let less = filter_few (λ row. row.live) rows in
     let room : nat_lt 2048 (length (keys place (kept_rows rows))) ≡ false = let e = h.1 in grind (arith, nat_tests) in

@@ -68,7 +68,7 @@ module _ (a b : State) (s t : Tables) (stays : ℕ → Type 0) (f : SparesOthers
   pub held_on : (n : ℕ) (access : Access) → Stays access → IsHeld a s n access → IsHeld b t n access
   held_on n Order stay h = tt
   held_on n (Tree file) stay h = (live_by_name a.files b.files f.named file h.0, f.kind file h.0 ∙ h.1)
-  held_on n (InTable number) stay h = ap (λ (ks : List ℤ). length ks) stay ∙ h
+  held_on n (InTable number) stay h = (h.0, ap (λ (ks : List ℤ). length ks) stay ∙ h.1)
 
   pub complete_on : (ks : List ℤ) (access : Access) → Stays access → IsComplete a s access ks → IsComplete b t access ks
   complete_on ks Order stay h = h

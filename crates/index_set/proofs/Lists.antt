@@ -216,6 +216,7 @@ count_more rooms new room n is count = ap (λ (xs : List Room). length xs) is �
 pub table_held : (s : State) (old new : Tables) (n : ℕ) (key : ℤ) (number : TableId) (access : Access) → access ≡ InTable number → entries new number ≡ entries old number ++ key ∷ [] → IsHeld s old n access → IsHeld s new (n + 1) access
 table_held s old new n key number access is put held =
     let H : Access → Type 0 = λ a. IsHeld s old n a in
-    let count : length (entries old number) ≡ n = subst H is held in
+    let table : IsHeld s old n (InTable number) = subst H is held in
     let P : Access → Type 0 = λ a. IsHeld s new (n + 1) a in
-    subst P (sym is) (ap (λ (ks : List ℤ). length ks) put ∙ length-append (entries old number) (key ∷ []) ∙ omega (arith, count))
+    let count = table.1 in
+    subst P (sym is) (table.0, ap (λ (ks : List ℤ). length ks) put ∙ length-append (entries old number) (key ∷ []) ∙ omega (arith, count))

@@ -19,7 +19,7 @@ use Rattle.index_set.specs.declared.info.IndexInfo.{IndexInfo}
 use Rattle.index_set.specs.declared.info.TableId.{TableId}
 use Rattle.index_set.specs.Complete.{AreComplete, AreHeld, HasKeys, HaveKeysOf, IsComplete, IsFirstIncomplete, IsHeld, most_reads, most_reads_of_all}
 use Rattle.index_set.specs.Inserts.{AreApart, IsApart, IsDoublingTree, IsNoTable, KeepsTables}
-use Rattle.index_set.specs.Tables.{Tables, entries}
+use Rattle.index_set.specs.Tables.{HasTable, Tables, entries}
 use Rattle.index_set.proofs.Fronts.{keys_whole}
 use Rattle.index_set.proofs.Inserted.{all_less, complete_before, held_before}
 use Rattle.index_set.proofs.Lists.{before_it, here_of, take_of, taken}
@@ -77,9 +77,9 @@ module _ (old new : State) (tables : Tables) (y : IndexInfo) (slots : ℕ) where
       subst H (sym is) (subst S (sym same) (subst D is tree))
   tree_held file (Err e) is same = tt
 
-  pub filled_held : (number : TableId) (r : Result Bool Failed) → y.access ≡ InTable number → IfOk r (λ whole. IsTrue whole → length (entries tables number) ≡ slots) → HeldIfWhole r
-  filled_held number (Ok m) is size = λ yes tree. let H : Access → Type 0 = λ a. IsHeld new tables slots a in subst H (sym is) (size yes)
-  filled_held number (Err e) is size = tt
+  pub filled_held : (number : TableId) (r : Result Bool Failed) → y.access ≡ InTable number → HasTable y.access → IfOk r (λ whole. IsTrue whole → length (entries tables number) ≡ slots) → HeldIfWhole r
+  filled_held number (Ok m) is there size = λ yes tree. let H : Access → Type 0 = λ a. IsHeld new tables slots a in subst H (sym is) (subst HasTable is there, size yes)
+  filled_held number (Err e) is there size = tt
 
 pub no_size : (es : List ℤ) (len slots : ℕ) → len ≡ length es → IsTrue (len == slots) → length es ≡ slots
 no_size es len slots is same = sym is ∙ (Decides-eqb len slots).0 same

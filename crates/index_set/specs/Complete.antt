@@ -9,7 +9,7 @@ use Rattle.db_model.specs.Step.{key_of as key_of_value, keys, first_fall}
 use Rattle.index_set.specs.declared.info.Access.{Access}
 use Rattle.index_set.specs.declared.info.Access.TheVariants.{Order, Tree, Table}
 use Rattle.index_set.specs.declared.info.IndexInfo.{IndexInfo}
-use Rattle.index_set.specs.Tables.{Tables, entries}
+use Rattle.index_set.specs.Tables.{HasTable, IsTable, Tables, entries}
 use Rattle.index_tree.specs.Trees.{IsTreeOf}
 
 -- ---- complete
@@ -48,19 +48,20 @@ IsNarrowFor width Order = ⊤
 IsNarrowFor width (Tree file) = width ≢ 8
 IsNarrowFor width (Table number) = width ≢ 8
 
--- the fields of this many slots lie in their file, and a tree's file is there: what an index needs to be read
+-- the fields of this many slots lie in their file, and a tree's file or a table is there: what an index needs to be read
 pub record IsReadable (state : State) (slots : ℕ) (info : IndexInfo) : Type 0 where
   pub place : info.attribute < 8
   pub width : IsWidth info.column.width
   pub narrow : IsNarrowFor info.column.width info.access
   pub fields : (slot : ℕ) → slot < slots → HasField state info.column slot
   pub tree : HasTree state info.access
+  pub table : HasTable info.access
 
 -- the index has its tree, which doubles, or its table with this many keys: what it needs to be written
 abbrev pub IsHeld : State → Tables → ℕ → Access → Type 0
 IsHeld state tables slots Order = ⊤
 IsHeld state tables slots (Tree file) = IsLive state.files file × ((file_at state.files file).kind ≡ Doubling)
-IsHeld state tables slots (Table number) = length (entries tables number) ≡ slots
+IsHeld state tables slots (Table number) = IsTable number × (length (entries tables number) ≡ slots)
 
 -- ---- indexes of a list
 

@@ -16,7 +16,7 @@ ghost use Rattle.index_inline.specs.Keys.{keys_of};
 ghost use Rattle.index_set.specs.declared.info.TableId.{TableId as AnyTable};
 ghost use Rattle.index_set.specs.Complete.{AreComplete, AreHeld, AreReadable, HaveKeysOf, IsComplete, IsFirstIncomplete, IsHeld, IsReadable, most_reads, most_reads_of_all};
 ghost use Rattle.index_set.specs.Inserts.{AreApart, AreDoublingTrees, IsDoublingTree, KeepsTables, KeepsTablesBeside};
-ghost use Rattle.index_set.specs.Tables.{entries};
+ghost use Rattle.index_set.specs.Tables.{IsTable, entries};
 ghost use Rattle.index_set.specs.Plans.{IsBy, IsOf, by_kind, access_kind, kinds, plan_in};
 
 use crate::info::{Access, IndexInfo, Indexes, TableId};
@@ -274,6 +274,7 @@ fn fill_whole<V: Files>(
     column: &KeyColumn,
     slots: u16,
 ) -> Result<bool, Failed>
+    requires there { IsTable table }
     requires width { IsWidth column.now.width }
     requires narrow { column.now.width ≢ 8 }
     requires fields { (slot : ℕ) → slot < slots → HasField (V.state files.old) column.now slot }

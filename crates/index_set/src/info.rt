@@ -6,7 +6,7 @@ use afl_base::{FileId, KeyColumn};
 use db_model::Few;
 use index_maxheap::Room;
 
-/// One of the two hash tables in memory.
+/// A hash table in memory. There are as many as `MOST_TABLES` of `db_model`, and at most two.
 #[derive(Clone, Copy, Debug, PartialEq, Eq)]
 pub enum TableId {
     First,

@@ -7,45 +7,51 @@ ghost use Rattle.afl_base.specs.Keeping.{OnlyReads};
 ghost use Rattle.std.specs.List.{range_with_len};
 ghost use Rattle.afl_base.specs.KeyColumn.{HasField, IsWidth, key_of};
 ghost use Rattle.index_set.specs.declared.info.TableId.{TableId as AnyTable};
-ghost use Rattle.index_set.specs.Tables.{entries};
+ghost use Rattle.index_set.specs.Tables.{IsTable, entries, number};
 ghost use Rattle.index_memhash.specs.Chains.{FindsKey};
 
 use crate::info::TableId;
 use afl_base::{Failed, Files, KeyColumn, SlotNo};
+use db_model::MOST_TABLES;
 use index_memhash::{HashPlace, HashTable};
+use std::array;
 use std::marker::Model;
 
-/// Two hash tables of at most 2,048 keys each. Entry number i of a table is the key of slot i. They
-/// have 28,680 bytes.
+const TABLES: usize = MOST_TABLES as usize;
+
+/// The hash tables that there are, of at most 2,048 keys and 14,340 bytes each. Entry number i of a
+/// table is the key of slot i.
 #[derive(Drop)]
 pub struct HashTables {
-    first: HashTable,
-    second: HashTable,
+    tables: [HashTable; TABLES],
 }
 
 impl Model for HashTables {
+    ghost use Rattle.std.specs.Prelude.{◌≡◌, length};
+    ghost use Rattle.db_model.specs.Database.{most_tables};
     ghost use Rattle.index_set.specs.Tables.{Tables};
 
     ghost Value = { Tables };
 
-    ghost view = { λ t. record { first = t.first; second = t.second } };
+    ghost view = { λ t. t.tables };
+
+    ghost invariant = { λ t. length t.tables ≡ most_tables };
 }
 
 impl HashTables {
-    /// Two empty tables.
+    /// Empty tables.
     // Inlined, so that the zeros are written where the tables are to stay.
     #[inline(always)]
     pub fn new() -> HashTables
         ensures { (table : AnyTable) → entries result table ≡ [] }
     {
         HashTables {
-            first: HashTable::new(),
-            second: HashTable::new(),
+            tables: array::from_fn(|_| HashTable::new()),
         }
     }
 
     /// Puts the keys of the first slots into a table, in the place of what it had. Each key is read
-    /// once. The other table stays.
+    /// once. The other tables stay.
     pub fn fill<V: Files>(
         &mut self,
         files: &mut V,
@@ -53,6 +59,7 @@ impl HashTables {
         column: &KeyColumn,
         slots: u16,
     ) -> Result<(), Failed>
+        requires there { IsTable table }
         requires few { slots ≤ 2048 }
         requires width { IsWidth column.now.width }
         requires narrow { column.now.width ≢ 8 }
@@ -81,9 +88,9 @@ impl HashTables {
         ensures len { result ≡ length (entries self.now table) }
         ensures few { result ≤ 2048 }
     {
-        match table {
-            TableId::First => self.first.len(),
-            TableId::Second => self.second.len(),
+        match self.tables.get(place(table)) {
+            Some(table) => table.len(),
+            None => 0,
         }
     }
 
@@ -91,36 +98,39 @@ impl HashTables {
     pub(crate) fn next(&self, table: TableId, key: &i32, from: u16) -> Option<SlotNo>
         ensures { FindsKey result key.now (entries self.now table) from }
     {
-        let place = HashPlace { entry: from };
-        let (slot, _) = match table {
-            TableId::First => self.first.next(place, key)?,
-            TableId::Second => self.second.next(place, key)?,
-        };
+        let table = self.tables.get(place(table))?;
+        let (slot, _) = table.next(HashPlace { entry: from }, key)?;
         Some(slot)
     }
 
     // Puts the key of the next slot into a table.
     pub(crate) fn push(&mut self, table: TableId, key: &i32)
+        requires there { IsTable table }
         requires room { length (entries self.old table) < 2048 }
         ensures key { entries self.new table ≡ entries self.old table ++ key.now ∷ [] }
         ensures other { (other : AnyTable) → other ≢ table
             → entries self.new other ≡ entries self.old other }
     {
-        match table {
-            TableId::First => self.first.insert(key),
-            TableId::Second => self.second.insert(key),
-        }
+        self.tables[place(table)].insert(key);
     }
 
     // Takes all keys out of a table.
     fn clear(&mut self, table: TableId)
+        requires there { IsTable table }
         ensures none { entries self.new table ≡ [] }
         ensures other { (other : AnyTable) → other ≢ table
             → entries self.new other ≡ entries self.old other }
     {
-        match table {
-            TableId::First => self.first.clear(),
-            TableId::Second => self.second.clear(),
-        }
+        self.tables[place(table)].clear();
+    }
+}
+
+// The place of a table among those that there are.
+fn place(table: TableId) -> usize
+    ensures { result ≡ number table }
+{
+    match table {
+        TableId::First => 0,
+        TableId::Second => 1,
     }
 }

@@ -16,7 +16,7 @@ use Rattle.index_set.specs.declared.info.Access.TheVariants.{Order, Tree, Table 
 use Rattle.index_set.specs.declared.info.TableId.{TableId}
 use Rattle.index_set.specs.declared.info.TableId.TheVariants.{First, Second}
 use Rattle.index_set.specs.Inserts.{IsElsewhere}
-use Rattle.index_set.specs.Tables.{Tables, entries}
+use Rattle.index_set.specs.Tables.{IsTable, Tables, entries}
 use Rattle.index_tree.specs.Trees.{IsTreeOf}
 use Rattle.space_model.specs.FileNames.{rows_file, tree_file}
 use Rattle.tuple_file.specs.declared.tuples.Tuples.{Tuples}
@@ -86,17 +86,17 @@ other_table m n xs j y free there is same = itself n (subst (λ a. IsElsewhere (
 pub taken_kept : (before after : Tables) (n : TableId) (xs : List (Option Indexed)) → IsNobodys n xs → ((m : TableId) → m ≢ n → entries after m ≡ entries before m) → KeepsTaken before after xs
 taken_kept before after n xs free others j y m there is = others m (other_table m n xs j y free there is)
 
-pub table_made : (old new : State) (before after : Tables) (xs : List (Option Indexed)) (cat : ℕ) (t : Tuples) (site : Site) (n : TableId) → (ready : IsReadyFor old cat t site)
+pub table_made : (old new : State) (before after : Tables) (xs : List (Option Indexed)) (cat : ℕ) (t : Tuples) (site : Site) (n : TableId) → IsTable n → (ready : IsReadyFor old cat t site)
     → (u : PutsIndex old new cat site.slot (Some (index_for site MemHash))) → (IsTrue old.tells → entries after n ≡ keys_at old t site) → length (entries after n) ≡ slots old.files t
     → KeepsTaken before after xs → IsNobodys n xs → IsMade old new before after xs cat t site (InTable n)
-table_made old new before after xs cat t site n ready u filled size kept nobodys =
+table_made old new before after xs cat t site n there ready u filled size kept nobodys =
     let l = put_leaves old new cat t site ready MemHash u in
     record {
       leaves = l;
       bytes = put_bytes old new cat t site ready MemHash u;
       idle = u.draft ∙ ready.idle;
       file = u.names (tree_file site.slot) ready.unnamed;
-      held = size ∙ sym (same_slots old new cat t site ready l);
+      held = (there, size ∙ sym (same_slots old new cat t site ready l));
       complete = λ told. filled (sym u.tells ∙ told) ∙ sym (same_keys old new cat t site ready l);
       tables = kept;
       own = λ m is. subst (λ (k : TableId). IsNobodys k xs) (same_table n m is) nobodys;

@@ -1,20 +1,22 @@
 -- A hash table that no index has, and how many indexes are hash tables.
-use Rattle.std.proofs.Common.{◌≡◌, ◌≢◌, ℕ, zero, suc, ◌+◌, ◌≤◌, ◌⊎◌, inl, inr, Bool, true, false, cond, List, [], ◌∷◌, length, map, filter, get_or, Option, Some, None, refl, sym, subst, arith}
-use Rattle.std.specs.Prelude.{nat_le, not, option_map}
+use Rattle.std.proofs.Common.{◌≡◌, ◌≢◌, ℕ, zero, suc, ◌+◌, ◌<◌, ◌≤◌, ◌⊎◌, inl, inr, Bool, true, false, ◌&&◌, cond, List, [], ◌∷◌, length, map, filter, get_or, Option, Some, None, refl, sym, subst, arith}
+use Rattle.std.specs.Prelude.{nat_le, nat_lt, not, option_map}
 use Rattle.std.proofs.Math.Logic.{⊎_elim}
+use Rattle.std.proofs.lemmas.Bool.{cases_lt}
 use Rattle.std.proofs.lemmas.Bool.Decides.{nat_tests}
 use Rattle.db_model.specs.Catalog.{Index}
-use Rattle.db_model.specs.Database.{is_hash_table, used_things}
+use Rattle.db_model.specs.Database.{is_hash_table, most_tables, used_things}
 use Rattle.index_set.specs.declared.info.Access.{Access}
 use Rattle.index_set.specs.declared.info.Access.TheVariants.{Order, Tree, Table}
 use Rattle.index_set.specs.declared.info.TableId.{TableId}
 use Rattle.index_set.specs.declared.info.TableId.TheVariants.{First, Second}
 use Rattle.index_set.specs.Inserts.{IsElsewhere}
 use Rattle.index_set.specs.Plans.{access_kind}
+use Rattle.index_set.specs.Tables.{HasTable, IsTable, number}
 use Rattle.session_model.specs.declared.held.Indexed.{Indexed}
 use Rattle.session_model.specs.Indexed.{index_known}
-use Rattle.session_indexes.specs.Made.{IsNobodys}
-use Rattle.session_indexes.specs.Sites.{free_table, is_this_table, is_table_taken}
+use Rattle.session_indexes.specs.Made.{AreElsewhere, HaveTables, IsNobodys}
+use Rattle.session_indexes.specs.Sites.{free_table, is_this_table, is_table_free, is_table_taken}
 use Rattle.padded.proofs.Facts.{true_or_false}
 
 -- how many indexes of a list have a table
@@ -94,9 +96,6 @@ other_of Second (Table Second) (Table Second) e h = absurd h
 
 -- ---- the lists
 
-AreElsewhere : List (Option Indexed) → Type 0
-AreElsewhere xs = (i j : ℕ) (x y : Indexed) → i ≢ j → get_or xs i None ≡ Some x → get_or xs j None ≡ Some y → IsElsewhere x.access y.access
-
 -- of a search that finds nothing
 not_taken : (b rest : Bool) → cond b true rest ≡ false → (b ≡ false) × (rest ≡ false)
 not_taken true rest e = absurd (cc)
@@ -135,7 +134,7 @@ away_taken number [] h = refl
 away_taken number (None ∷ xs) h = away_taken number xs (λ j y e. h (suc j) y e)
 away_taken number (Some x ∷ xs) h = let head = h zero x refl in let rest = away_taken number xs (λ j y e. h (suc j) y e) in rw (head, rest) refl
 
-one_counted : (number : TableId) (xs : List (Option Indexed)) → ((i j : ℕ) (x y : Indexed) → i ≢ j → get_or xs i None ≡ Some x → get_or xs j None ≡ Some y → IsElsewhere x.access y.access) → count number xs ≤ 1
+one_counted : (number : TableId) (xs : List (Option Indexed)) → AreElsewhere xs → count number xs ≤ 1
 unfolding count
 one_counted number [] h = omega arith
 one_counted number (None ∷ xs) h = one_counted number xs (λ i j x y other a b. h (suc i) (suc j) x y (λ e. other (omega (arith, e))) a b)
@@ -160,49 +159,108 @@ nobodys number (Some x ∷ xs) e zero y there =
     subst (λ (z : Indexed). IsElsewhere (Table number) z.access) (same_index x y there) (elsewhere_of number x.access parts.0)
 nobodys number (Some x ∷ xs) e (suc j) y there = nobodys number xs (not_taken (is_this_table number x.access) (is_table_taken number xs) e).1 j y there
 
+-- where some index has the table, the table is there
+has_table : (n : TableId) (access : Access) → is_this_table n access ≡ true → HasTable access → IsTable n
+has_table First Order e h = absurd (cc)
+has_table Second Order e h = absurd (cc)
+has_table First (Tree file) e h = absurd (cc)
+has_table Second (Tree file) e h = absurd (cc)
+has_table First (Table First) e h = h
+has_table First (Table Second) e h = absurd (cc)
+has_table Second (Table First) e h = absurd (cc)
+has_table Second (Table Second) e h = h
+
+counted_there : (n : TableId) (xs : List (Option Indexed)) → HaveTables xs → 1 ≤ count n xs → IsTable n
+unfolding count
+counted_there n [] there some = absurd (omega (arith, some))
+counted_there n (None ∷ xs) there some = counted_there n xs (λ i x e. there (suc i) x e) some
+counted_there n (Some x ∷ xs) there some =
+    ⊎_elim
+    (λ here. has_table n x.access here (there zero x refl))
+    (λ not_here. let head = none_of n x.access not_here in counted_there n xs (λ i y e. there (suc i) y e) (omega (arith, some, head)))
+    (true_or_false (is_this_table n x.access))
+
 -- ---- the free one
 
-free_by : (a b : Bool) (n : TableId) → cond (not a) (Some First) (cond (not b) (Some Second) None) ≡ Some n → ((a ≡ false) × (n ≡ First)) ⊎ ((b ≡ false) × (n ≡ Second))
-free_by false b n e = inl (refl, cc)
-free_by true false n e = inr (refl, cc)
-free_by true true n e = absurd (cc)
+free_by : (a b : Bool) (n : TableId) → cond a (Some First) (cond b (Some Second) None) ≡ Some n → ((a ≡ true) × (n ≡ First)) ⊎ ((b ≡ true) × (n ≡ Second))
+free_by true b n e = inl (refl, cc)
+free_by false true n e = inr (refl, cc)
+free_by false false n e = absurd (cc)
 
-none_by : (a b : Bool) → cond (not a) (Some First) (cond (not b) (Some Second) None) ≡ None → (a ≡ true) × (b ≡ true)
-none_by false b e = absurd (cc)
-none_by true false e = absurd (cc)
-none_by true true e = (refl, refl)
+none_by : (a b : Bool) → cond a (Some First) (cond b (Some Second) None) ≡ None → (a ≡ false) × (b ≡ false)
+none_by true b e = absurd (cc)
+none_by false true e = absurd (cc)
+none_by false false e = (refl, refl)
 
-pub free_is : (xs : List (Option Indexed)) (n : TableId) → free_table xs ≡ Some n → is_table_taken n xs ≡ false
-free_is xs n e =
+free_parts : (there taken : Bool) → (there && not taken) ≡ true → (there ≡ true) × (taken ≡ false)
+free_parts true false e = (refl, refl)
+free_parts true true e = absurd (cc)
+free_parts false taken e = absurd (cc)
+
+taken_by : (there taken : Bool) → (there && not taken) ≡ false → there ≡ true → taken ≡ true
+taken_by true true e h = refl
+taken_by true false e h = absurd (cc)
+taken_by false taken e h = absurd (cc)
+
+is_free : (xs : List (Option Indexed)) (n : TableId) → free_table xs ≡ Some n → is_table_free n xs ≡ true
+is_free xs n e =
     ⊎_elim
-    (λ first. subst (λ (m : TableId). is_table_taken m xs ≡ false) (sym first.1) first.0)
-    (λ second. subst (λ (m : TableId). is_table_taken m xs ≡ false) (sym second.1) second.0)
-    (free_by (is_table_taken First xs) (is_table_taken Second xs) n e)
+    (λ first. subst (λ (m : TableId). is_table_free m xs ≡ true) (sym first.1) first.0)
+    (λ second. subst (λ (m : TableId). is_table_free m xs ≡ true) (sym second.1) second.0)
+    (free_by (is_table_free First xs) (is_table_free Second xs) n e)
+
+free_is : (xs : List (Option Indexed)) (n : TableId) → free_table xs ≡ Some n → is_table_taken n xs ≡ false
+free_is xs n e = (free_parts (nat_lt (number n) most_tables) (is_table_taken n xs) (is_free xs n e)).1
+
+less_by : (a b : ℕ) → nat_lt a b ≡ true → a < b
+less_by a b e = grind (arith, nat_tests)
+
+by_less : (a b : ℕ) → a < b → nat_lt a b ≡ true
+by_less a b h = grind (arith, nat_tests)
+
+pub free_there : (xs : List (Option Indexed)) (n : TableId) → free_table xs ≡ Some n → IsTable n
+free_there xs n e = less_by (number n) most_tables (free_parts (nat_lt (number n) most_tables) (is_table_taken n xs) (is_free xs n e)).0
 
 pub free_nobodys : (xs : List (Option Indexed)) (n : TableId) → free_table xs ≡ Some n → IsNobodys n xs
 free_nobodys xs n e = nobodys n xs (free_is xs n e)
 
-few_of : (n : ℕ) → n ≤ 1 → nat_le 2 n ≡ false
-few_of n h = grind (arith, nat_tests)
+few_of : (most n : ℕ) → n < most → nat_le most n ≡ false
+few_of most n h = grind (arith, nat_tests)
 
-many_of : (n : ℕ) → 2 ≤ n → nat_le 2 n ≡ true
-many_of n h = grind (arith, nat_tests)
+many_of : (most n : ℕ) → most ≤ n → nat_le most n ≡ true
+many_of most n h = grind (arith, nat_tests)
 
-less_one : (n : TableId) (xs : List (Option Indexed)) → is_table_taken n xs ≡ false → ((i j : ℕ) (x y : Indexed) → i ≢ j → get_or xs i None ≡ Some x → get_or xs j None ≡ Some y → IsElsewhere x.access y.access)
-    → count First xs + count Second xs ≤ 1
-less_one First xs e h = let a = none_counted First xs e in let b = one_counted Second xs h in omega (arith, a, b)
-less_one Second xs e h = let a = one_counted First xs h in let b = none_counted Second xs e in omega (arith, a, b)
+less_most : (n : TableId) (xs : List (Option Indexed)) → IsTable n → is_table_taken n xs ≡ false → HaveTables xs → AreElsewhere xs → count First xs + count Second xs < most_tables
+less_most First xs there e have h =
+    let a = none_counted First xs e in
+    let b = one_counted Second xs h in
+    ⊎_elim
+    (λ (some : 0 < count Second xs). let second = counted_there Second xs have (omega (arith, some)) in omega (arith, a, b, second))
+    (λ (none : count Second xs ≤ 0). omega (arith, a, none, there))
+    (cases_lt 0 (count Second xs))
+less_most Second xs there e have h = let a = one_counted First xs h in let b = none_counted Second xs e in omega (arith, a, b, there)
 
-pub tables_few : (xs : List (Option Indexed)) (n : TableId) → free_table xs ≡ Some n → ((i j : ℕ) (x y : Indexed) → i ≢ j → get_or xs i None ≡ Some x → get_or xs j None ≡ Some y → IsElsewhere x.access y.access)
-    → nat_le 2 (length (filter is_hash_table (used_things (map (option_map index_known) xs)))) ≡ false
+pub tables_few : (xs : List (Option Indexed)) (n : TableId) → free_table xs ≡ Some n → HaveTables xs → AreElsewhere xs
+    → nat_le most_tables (length (filter is_hash_table (used_things (map (option_map index_known) xs)))) ≡ false
 unfolding tables_in
-tables_few xs n e h = let all = sum xs in let less = less_one n xs (free_is xs n e) h in few_of _ (omega (arith, all, less))
+tables_few xs n e have h =
+    let all = sum xs in
+    let less = less_most n xs (free_there xs n e) (free_is xs n e) have h in
+    few_of most_tables (tables_in xs) (omega (arith, all, less))
 
-pub tables_full : (xs : List (Option Indexed)) → free_table xs ≡ None → nat_le 2 (length (filter is_hash_table (used_things (map (option_map index_known) xs)))) ≡ true
+-- what there is has an index each
+counted_full : (n : TableId) (xs : List (Option Indexed)) → is_table_free n xs ≡ false → number n < most_tables → 1 ≤ count n xs
+counted_full n xs e there = some_counted n xs (taken_by (nat_lt (number n) most_tables) (is_table_taken n xs) e (by_less (number n) most_tables there))
+
+all_counted : (most a b : ℕ) → most ≤ 2 → (0 < most → 1 ≤ a) → (1 < most → 1 ≤ b) → most ≤ a + b
+all_counted zero a b few first second = omega arith
+all_counted (suc zero) a b few first second = let one = first (omega arith) in omega (arith, one)
+all_counted (suc (suc m)) a b few first second = let one = first (omega arith) in let other = second (omega arith) in omega (arith, few, one, other)
+
+pub tables_full : (xs : List (Option Indexed)) → free_table xs ≡ None → nat_le most_tables (length (filter is_hash_table (used_things (map (option_map index_known) xs)))) ≡ true
 unfolding tables_in
 tables_full xs e =
-    let both = none_by (is_table_taken First xs) (is_table_taken Second xs) e in
-    let a = some_counted First xs both.0 in
-    let b = some_counted Second xs both.1 in
+    let both = none_by (is_table_free First xs) (is_table_free Second xs) e in
     let all = sum xs in
-    many_of _ (omega (arith, all, a, b))
+    let full = all_counted most_tables (count First xs) (count Second xs) (omega arith) (counted_full First xs both.0) (counted_full Second xs both.1) in
+    many_of most_tables (tables_in xs) (omega (arith, all, full))

@@ -15,7 +15,7 @@ use Rattle.index_set.specs.declared.info.TableId.{TableId}
 use Rattle.index_set.specs.Complete.{IsComplete, IsHeld}
 use Rattle.index_set.specs.Inserts.{IsElsewhere}
 use Rattle.index_set.specs.Plans.{access_kind}
-use Rattle.index_set.specs.Tables.{Tables, entries}
+use Rattle.index_set.specs.Tables.{HasTable, Tables, entries}
 use Rattle.space_model.specs.Enough.{tree_size}
 use Rattle.space_model.specs.FileNames.{rows_file, tree_file}
 use Rattle.space_model.specs.Wants.{room_for}
@@ -88,6 +88,10 @@ IsTried kind xs ks (Err refusal) = (db : Database) → db.indexes ≡ map (optio
 -- no two indexes have one tree or one table
 abbrev pub AreElsewhere : List (Option Indexed) → Type 0
 AreElsewhere xs = (i j : ℕ) (x y : Indexed) → i ≢ j → get_or xs i None ≡ Some x → get_or xs j None ≡ Some y → IsElsewhere x.access y.access
+
+-- each has a table that is there, if it has one
+abbrev pub HaveTables : List (Option Indexed) → Type 0
+HaveTables xs = (i : ℕ) (x : Indexed) → get_or xs i None ≡ Some x → HasTable x.access
 
 -- ---- space
 

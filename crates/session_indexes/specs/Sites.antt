@@ -1,12 +1,13 @@
 -- Where an index stands, or comes to stand.
-use Rattle.std.specs.Prelude.{◌≡◌, ◌<◌, ℕ, ◌+◌, is_some, Bool, true, false, not, ◌&&◌, ◌==◌, List, [], ◌∷◌, Option, Some, None, if◌then◌else◌}
+use Rattle.std.specs.Prelude.{◌≡◌, ◌<◌, ℕ, ◌+◌, is_some, Bool, true, false, not, ◌&&◌, ◌==◌, nat_lt, List, [], ◌∷◌, Option, Some, None, if◌then◌else◌}
 use Rattle.db_model.specs.declared.schemas.IndexKind.{IndexKind}
-use Rattle.db_model.specs.Database.{free_from}
+use Rattle.db_model.specs.Database.{free_from, most_tables}
 use Rattle.db_model.specs.Item.{place_of}
 use Rattle.index_set.specs.declared.info.Access.{Access}
 use Rattle.index_set.specs.declared.info.Access.TheVariants.{Table}
 use Rattle.index_set.specs.declared.info.TableId.{TableId}
 use Rattle.index_set.specs.declared.info.TableId.TheVariants.{First, Second}
+use Rattle.index_set.specs.Tables.{number}
 use Rattle.session_model.specs.declared.held.Held.{Held}
 use Rattle.session_model.specs.declared.held.Indexed.{Indexed}
 use Rattle.session_model.specs.Indexed.{IsAllowedAt}
@@ -41,9 +42,12 @@ abbrev pub is_table_taken : TableId → List (Option Indexed) → Bool
 is_table_taken number [] = false
 is_table_taken number (x ∷ xs) = if is_in_table number x then true else is_table_taken number xs
 
--- a table that no index has
+-- a table that there is, and that no index has
+abbrev pub is_table_free : TableId → List (Option Indexed) → Bool
+is_table_free table xs = nat_lt (number table) most_tables && not (is_table_taken table xs)
+
 abbrev pub free_table : List (Option Indexed) → Option TableId
-free_table xs = if not (is_table_taken First xs) then Some First else if not (is_table_taken Second xs) then Some Second else None
+free_table xs = if is_table_free First xs then Some First else if is_table_free Second xs then Some Second else None
 
 -- ---- sites
 

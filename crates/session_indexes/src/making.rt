@@ -17,7 +17,7 @@ ghost use Rattle.session_model.specs.Indexed.{IsAllowedAt};
 ghost use Rattle.session_model.specs.declared.held.Indexed.{Indexed as AnyIndexed};
 ghost use Rattle.tuple_file.specs.Column.{IsNumber};
 ghost use Rattle.tuple_file.specs.Tuples.{HoldsRows, rows};
-ghost use Rattle.session_indexes.specs.Made.{AreElsewhere, AsksIndex, AsksIndexSlot, AsksNoIndex, IsMade, IsReadyFor};
+ghost use Rattle.session_indexes.specs.Made.{AreElsewhere, AsksIndex, AsksIndexSlot, AsksNoIndex, HaveTables, IsMade, IsReadyFor};
 ghost use Rattle.session_indexes.specs.Made.{IsTried, IsUnrefused, KeepsTaken, keys_at};
 ghost use Rattle.session_indexes.specs.Parts.{IsMadeInPart};
 
@@ -132,6 +132,7 @@ fn make_table<V: Files>(
     requires ready { IsReadyFor (V.state files.old) cat tuples.now site.now }
     requires allowed { IsAllowedAt tuples.now.schema.attributes site.now.attribute MemHash }
     requires apart { AreElsewhere indexes.now }
+    requires tables { HaveTables indexes.now }
     ensures made { let old = V.state files.old in let new = V.state files.new in
         IfOk result (λ r. IfOk r (λ access.
         IsMade old new tables.old tables.new indexes.now cat tuples.now site.now access)) }
@@ -190,6 +191,7 @@ pub fn make_index<V: Files>(
     requires ready { IsReadyFor (V.state files.old) cat tuples.now site.now }
     requires allowed { IsAllowedAt tuples.now.schema.attributes site.now.attribute kind }
     requires apart { AreElsewhere held.now.indexes }
+    requires tables { HaveTables held.now.indexes }
     ensures made { let old = V.state files.old in let new = V.state files.new in
         IfOk result (λ r. IfOk r (λ access.
         IsMade old new tables.old tables.new held.now.indexes cat tuples.now site.now access)) }

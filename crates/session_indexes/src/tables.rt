@@ -5,6 +5,7 @@
 ghost use Rattle.std.specs.Prelude.{◌≡◌, ◌<◌, ◌≤◌, IsFalse, IsTrue};
 ghost use Rattle.session_indexes.specs.Sites.{free_table, is_in_table, is_table_taken};
 
+use db_model::MOST_TABLES;
 use index_set::{Access, MOST_KEYS, TableId};
 use session_model::Indexed;
 
@@ -33,10 +34,10 @@ fn is_taken(indexes: &[Option<Indexed>], table: TableId) -> bool
 pub fn free_table(indexes: &[Option<Indexed>]) -> Option<TableId>
     ensures { result ≡ free_table indexes.now }
 {
-    if !is_taken(indexes, TableId::First) {
+    if 0 < MOST_TABLES && !is_taken(indexes, TableId::First) {
         return Some(TableId::First);
     }
-    if !is_taken(indexes, TableId::Second) {
+    if 1 < MOST_TABLES && !is_taken(indexes, TableId::Second) {
         return Some(TableId::Second);
     }
     None

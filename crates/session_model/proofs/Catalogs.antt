@@ -95,7 +95,7 @@ module _ (old new : State) (before after : Tables) (held : Held) (opens : List (
   kept_held i n m (Tree g) other table file same h =
       let P : Option File → Type 0 = λ o. IsTrue (is_some o) in
       (subst P (sym (tree_place i g file other)) h.0, ap (λ (o : Option File). (unwrap_or o no_file).kind) (tree_place i g file other) ∙ h.1)
-  kept_held i n m (InTable number) other table file same h = ap (λ (zs : List ℤ). length zs) (table number refl) ∙ h ∙ same
+  kept_held i n m (InTable number) other table file same h = (h.0, ap (λ (zs : List ℤ). length zs) (table number refl) ∙ h.1 ∙ same)
 
   pub kept_file : (i : ℕ) (access : Access) → tree_file i ≢ name → HasFile old.files i access → HasFile new.files i access
   kept_file i Order other h = l.unnamed (tree_file i) (λ same. catalog_no_tree i (sym same)) other h

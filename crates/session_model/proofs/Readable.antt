@@ -20,7 +20,7 @@ use Rattle.index_set.specs.declared.info.IndexInfo.{IndexInfo}
 use Rattle.index_set.specs.Complete.{AreIndexesOf, AreReadable, HasTree, IsHeld, IsInfoOf, IsNarrowFor, IsReadable, key_at_place}
 use Rattle.index_set.specs.Inserts.{SomeOf}
 use Rattle.index_set.specs.Plans.{access_kind}
-use Rattle.index_set.specs.Tables.{Tables}
+use Rattle.index_set.specs.Tables.{HasTable, Tables}
 use Rattle.index_set.specs.Walks.{IsChosen}
 use Rattle.cursor.specs.Remaining.{AreOnNumbers}
 use Rattle.tuple_file.specs.declared.tuples.Tuples.{Tuples}
@@ -32,7 +32,7 @@ use Rattle.session_model.specs.declared.held.Indexed.{Indexed}
 use Rattle.session_model.specs.declared.held.Open.{Open}
 use Rattle.session_model.specs.Indexed.{AreNumbers, info_of, infos_of}
 use Rattle.session_model.specs.Running.{IndexStands, IsIndexed, IsRunning}
-use Rattle.session_model.proofs.Running.{all_of, on_relation, relation_there}
+use Rattle.session_model.proofs.Running.{all_of, index_there, on_relation, relation_there}
 
 -- ---- what a kind allows
 
@@ -72,6 +72,11 @@ tree_there state tables n Order h = tt
 tree_there state tables n (Tree file) h = h.0
 tree_there state tables n (InTable number) h = tt
 
+pub table_there : (state : State) (tables : Tables) (n : ℕ) (access : Access) → IsHeld state tables n access → HasTable access
+table_there state tables n Order h = tt
+table_there state tables n (Tree file) h = tt
+table_there state tables n (InTable number) h = h.0
+
 pub index_number : (state : State) (tables : Tables) (i : ℕ) (x : Indexed) (t : Tuples) → IsIndexed state tables i x t → IsNumber t.schema.attributes x.attribute
 index_number state tables i x t d = number_at (access_kind x.access) (slice_get t.schema.attributes x.attribute) d.allowed
 
@@ -84,6 +89,7 @@ index_readable state tables i x t n few holds d =
       narrow = narrow_at x.access (slice_get t.schema.attributes x.attribute) d.allowed;
       fields = λ slot below. column_field state t x.attribute slot number holds (omega (arith, below, few));
       tree = tree_there state tables _ x.access d.held;
+      table = table_there state tables _ x.access d.held;
     }
 
 pub index_complete : (state : State) (tables : Tables) (i : ℕ) (x : Indexed) (t : Tuples) → HoldsRows state t → IsTrue state.tells → IsIndexed state tables i x t → IsInfoOf state tables (rows state.files t) (info_of t x)
@@ -96,6 +102,12 @@ index_complete state tables i x t holds told d =
           ∙ ap (λ (z : Row). key_at_place x.attribute z) (sym (get_or-map-range_with_len (row_at t.schema.attributes (bytes_at state.files t.file)) 0 (slots state.files t) slot slot no_row inside (omega arith)));
       complete = d.complete told;
     }
+
+-- each index has a table that is there, if it has one
+pub have_tables : (state : State) (tables : Tables) (held : Held) (opens : List (Option Open)) → IsRunning state tables held opens → (i : ℕ) (x : Indexed) → get_or held.indexes i None ≡ Some x → HasTable x.access
+have_tables state tables held opens r i x e =
+    let o = index_there state tables held opens r i x e in
+    table_there state tables (slots state.files o.tuples) x.access o.indexed.held
 
 -- ---- those of a relation
 

@@ -14,7 +14,7 @@ use Rattle.db_model.specs.declared.schemas.Domain.{Domain}
 use Rattle.db_model.specs.declared.schemas.Domain.TheVariants.{Int, Long, Time, Str}
 use Rattle.db_model.specs.declared.schemas.Schema.{Schema}
 use Rattle.db_model.specs.Catalog.{Index, IsDomain, index_slot_bytes, relation_slot_bytes, version_mark}
-use Rattle.db_model.specs.Database.{is_hash_table, used_things}
+use Rattle.db_model.specs.Database.{is_hash_table, used_things, most_tables}
 use Rattle.db_model.specs.Names.{is_name}
 use Rattle.db_model.specs.Row.{row_length}
 use Rattle.db_model.specs.Sound.{IsSoundAttribute, IsSoundSchema, are_distinct, attribute_names}
@@ -110,13 +110,13 @@ tables_counted (Some y ∷ xs) (suc k) x e t = counted (is_hash_table y) (how_ma
     counted true n rest h = omega (arith, h)
     counted false n rest h = h
 
-pub no_surplus_table : (xs : List (Option Index)) (k : ℕ) (x : Index) → get_or xs k None ≡ Some x → length (filter is_hash_table (used_things xs)) ≤ 2 → is_surplus_table (take k xs) x ≡ false
+pub no_surplus_table : (xs : List (Option Index)) (k : ℕ) (x : Index) → get_or xs k None ≡ Some x → length (filter is_hash_table (used_things xs)) ≤ most_tables → is_surplus_table (take k xs) x ≡ false
 no_surplus_table xs k x e few = by_kind (is_hash_table x) refl
   where
-    fewer : (n : ℕ) → n + 1 ≤ 2 → nat_le 2 n ≡ false
+    fewer : (n : ℕ) → n + 1 ≤ most_tables → nat_le most_tables n ≡ false
     fewer n h = grind (arith, nat_tests)
 
-    by_kind : (b : Bool) → is_hash_table x ≡ b → (b && nat_le 2 (how_many is_table (take k xs))) ≡ false
+    by_kind : (b : Bool) → is_hash_table x ≡ b → (b && nat_le most_tables (how_many is_table (take k xs))) ≡ false
     by_kind true t = let counted = tables_counted xs k x e t in fewer (how_many is_table (take k xs)) (omega (arith, counted, few))
     by_kind false t = refl
 

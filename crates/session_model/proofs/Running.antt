@@ -298,7 +298,7 @@ module _ (old new : State) (before after : Tables) (held : Held) (opens : List (
   other_held i x s Order e other is same h = tt
   other_held i x s (Tree g) e other is same h = (live_spared old new _ g u.spared h.0, u.spared.kind g h.0 ∙ h.1)
   other_held i x s (InTable number) e other is same h =
-      ap (λ (zs : List ℤ). length zs) (u.tables number (table_stays old before held opens r k t i number x e other is)) ∙ h ∙ sym same
+      (h.0, ap (λ (zs : List ℤ). length zs) (u.tables number (table_stays old before held opens r k t i number x e other is)) ∙ h.1 ∙ sym same)
 
   other_complete : (i : ℕ) (x : Indexed) (access : Access) (ks : List ℤ) → get_or held.indexes i None ≡ Some x → x.relation ≢ k → x.access ≡ access → HasFile old.files i access
       → IsComplete old before access ks → IsComplete new after access ks

@@ -20,7 +20,7 @@ use Rattle.db_model.specs.declared.schemas.IndexKind.{IndexKind}
 use Rattle.db_model.specs.declared.schemas.IndexKind.TheVariants.{Inline, MaxHeap, MemHash}
 use Rattle.db_model.specs.declared.schemas.Schema.{Schema}
 use Rattle.db_model.specs.Catalog.{Index}
-use Rattle.db_model.specs.Database.{is_hash_table}
+use Rattle.db_model.specs.Database.{is_hash_table, most_tables}
 use Rattle.db_model.specs.Row.{row_length}
 use Rattle.db_model.specs.Step.{allows}
 use Rattle.index_set.specs.declared.info.Access.{Access}
@@ -29,6 +29,7 @@ use Rattle.index_set.specs.declared.info.TableId.{TableId}
 use Rattle.index_set.specs.declared.info.TableId.TheVariants.{First, Second}
 use Rattle.index_set.specs.Inserts.{IsApart, IsDoublingTree, IsElsewhere, IsNoTable}
 use Rattle.index_set.specs.Plans.{access_kind}
+use Rattle.index_set.specs.Tables.{HasTable, IsTable}
 use Rattle.padded.proofs.Facts.{both_parts, seen_at, some_inside}
 use Rattle.space_model.specs.FileNames.{catalog_file, is_there, rows_file, tree_file}
 use Rattle.space_model.proofs.NamedFiles.{at_name, named_found}
@@ -128,12 +129,48 @@ doubling_by state before i Order known h = tt
 doubling_by state before i (Tree file) known h = ((at_name state.files file (tree_file i) h).live, growing state.files file (tree_file i) known refl h)
 doubling_by state before i (InTable number) known h = tt
 
+some_counted : (xs : List (Option Index)) → list_any is_table xs ≡ true → 1 ≤ how_many is_table xs
+some_counted [] e = absurd (cc)
+some_counted (o ∷ xs) e = by_test (is_table o) e (some_counted xs)
+  where
+    by_test : (b : Bool) → (b || list_any is_table xs) ≡ true → (list_any is_table xs ≡ true → 1 ≤ how_many is_table xs) → 1 ≤ (if b then how_many is_table xs + 1 else how_many is_table xs)
+    by_test true e rest = omega arith
+    by_test false e rest = rest e
+
+none_counted : (xs : List (Option Index)) → how_many is_table xs < 1 → list_any is_table xs ≡ false
+none_counted xs few = by_test (list_any is_table xs) refl
+  where
+    by_test : (b : Bool) → list_any is_table xs ≡ b → b ≡ false
+    by_test true e = let some = some_counted xs e in absurd (omega (arith, some, few))
+    by_test false e = refl
+
+-- an index that is not one too many has a table that is there
+table_by : (files : Table) (before : List (Option Index)) (i relation attribute : ℕ) (access : Access) → is_surplus_table before (record { kind = access_kind access; relation = relation; attribute = attribute }) ≡ false
+    → IsAccess files before i access → HasTable access
+table_by files before i relation attribute Order few h = tt
+table_by files before i relation attribute (Tree file) few h = tt
+table_by files before i relation attribute (InTable number) few h = subst IsTable (sym h) (there (list_any is_table before) refl)
+  where
+    below : how_many is_table before < most_tables
+    below = under most_tables (how_many is_table before) few
+      where
+        under : (m n : ℕ) → nat_le m n ≡ false → n < m
+        under m n e = grind (arith, nat_tests)
+
+    there : (b : Bool) → list_any is_table before ≡ b → IsTable (if b then Second else First)
+    there true e = let some = some_counted before e in omega (arith, some, below)
+    there false e = omega (arith, below)
+
+when_not : (b : Bool) → not b ≡ true → b ≡ false
+when_not true e = absurd (cc)
+when_not false e = refl
+
 placed_on : (state : State) (version i : ℕ) (before : List (Option Index)) (x : Indexed) (schema : Option Schema) (o : Option Tuples) → AreDistinct state.files → AreOfDatabase state.files
-    → is_schema_slot version schema ≡ true → stands_on (index_known x) schema ≡ true → is_there (tree_file i) state.files ≡ is_tree (Some (index_known x))
+    → is_surplus_table before (index_known x) ≡ false → is_schema_slot version schema ≡ true → stands_on (index_known x) schema ≡ true → is_there (tree_file i) state.files ≡ is_tree (Some (index_known x))
     → IsAccess state.files before i x.access → IsRelationOf state.files x.relation schema o → IsPlacedOn state i x o
-placed_on state version i before x None o d known s stands there access h = absurd (cc)
-placed_on state version i before x (Some schema) None d known s stands there access h = absurd h
-placed_on state version i before x (Some schema) (Some t) d known s stands there access h =
+placed_on state version i before x None o d known few_tables s stands there access h = absurd (cc)
+placed_on state version i before x (Some schema) None d known few_tables s stands there access h = absurd h
+placed_on state version i before x (Some schema) (Some t) d known few_tables s stands there access h =
     let few = (sound_schema version schema s).few in
     let within = inside_by (access_kind x.access) schema.attributes x.attribute stands in
     record {
@@ -142,6 +179,7 @@ placed_on state version i before x (Some schema) (Some t) d known s stands there
           ∙ allowed_by (access_kind x.access) (slice_get schema.attributes x.attribute) stands;
       file = file_by state.files before i x.access d there access;
       doubling = doubling_by state before i x.access known access;
+      table = table_by state.files before i x.relation x.attribute x.access few_tables access;
     }
 
 -- what stands in a slot of a list
@@ -163,18 +201,11 @@ index_placed state version i schemas relations before (Some index) (Some x) d kn
     let third : Bool = is_surplus_table before (index_known x) in
     let stands = (both_parts stand (not same) (both_parts (stand && not same) (not third) now).0).0 in
     let within = test_inside schemas x.relation (stands_on (index_known x)) refl stands in
-    placed_on state version i before x (get_or schemas x.relation None) (get_or relations x.relation None) d known (s x.relation) stands
+    let no_third = when_not third (both_parts (stand && not same) (not third) now).1 in
+    placed_on state version i before x (get_or schemas x.relation None) (get_or relations x.relation None) d known no_third (s x.relation) stands
     (there ∙ ap (λ (z : Index). is_tree (Some z)) (sym h.0)) h.1 (rels x.relation (omega (arith, within, eight)))
 
 -- ---- trees and tables apart
-
-some_counted : (xs : List (Option Index)) → list_any is_table xs ≡ true → 1 ≤ how_many is_table xs
-some_counted [] e = absurd (cc)
-some_counted (o ∷ xs) e = by_test (is_table o) e (some_counted xs)
-  where
-    by_test : (b : Bool) → (b || list_any is_table xs) ≡ true → (list_any is_table xs ≡ true → 1 ≤ how_many is_table xs) → 1 ≤ (if b then how_many is_table xs + 1 else how_many is_table xs)
-    by_test true e rest = omega arith
-    by_test false e rest = rest e
 
 one_counted : (xs : List (Option Index)) (i j : ℕ) → i < j → is_table (get_or xs i None) ≡ true → how_many is_table (take i xs) + 1 ≤ how_many is_table (take j xs)
 one_counted [] i j below e = absurd (cc)
@@ -197,13 +228,13 @@ any_before (o ∷ xs) (suc i) (suc j) below e = by_test (is_table o) (any_before
     by_test true h = refl
     by_test false h = h
 
-tables_differ : (xs : List (Option Index)) (i j : ℕ) → i < j → is_table (get_or xs i None) ≡ true → nat_le 2 (how_many is_table (take j xs)) ≡ false → table_behind (take i xs) ≡ table_behind (take j xs) → ⊥
+tables_differ : (xs : List (Option Index)) (i j : ℕ) → i < j → is_table (get_or xs i None) ≡ true → nat_le most_tables (how_many is_table (take j xs)) ≡ false → table_behind (take i xs) ≡ table_behind (take j xs) → ⊥
 tables_differ xs i j below e few same = by_test (list_any is_table (take i xs)) refl
   where
     second : table_behind (take j xs) ≡ Second
     second = ap (λ (b : Bool). if b then Second else First) (any_before xs i j below e)
 
-    two : (n : ℕ) → 2 ≤ n → nat_le 2 n ≡ false → ⊥
+    two : (n : ℕ) → 2 ≤ n → nat_le most_tables n ≡ false → ⊥
     two n h e = grind (arith, nat_tests)
 
     by_test : (b : Bool) → list_any is_table (take i xs) ≡ b → ⊥
@@ -235,15 +266,15 @@ module _ (files : Table) (schemas : List (Option Schema)) (indexes : List (Optio
       by_slot None is h = absurd h
       by_slot (Some index) is h = record { index_is = is ∙ ap (λ (z : Index). Some z) (sym h.0); access = h.1 }
 
-  -- no third table
-  few_tables : (j : ℕ) (y : Indexed) (m : TableId) → get_or indexes j None ≡ Some (index_known y) → y.access ≡ InTable m → nat_le 2 (how_many is_table (take j indexes)) ≡ false
+  -- none too many
+  few_tables : (j : ℕ) (y : Indexed) (m : TableId) → get_or indexes j None ≡ Some (index_known y) → y.access ≡ InTable m → nat_le most_tables (how_many is_table (take j indexes)) ≡ false
   few_tables j y m is table =
       let now : is_behind schemas (take j indexes) (Some (index_known y)) ≡ true = ap (is_behind schemas (take j indexes)) (sym is) ∙ behind j in
       let stand : Bool = stands_on (index_known y) (get_or schemas y.relation None) in
       let same : Bool = list_any (is_same_place (index_known y)) (take j indexes) in
       let third : Bool = is_surplus_table (take j indexes) (index_known y) in
       let no = (both_parts (stand && not same) (not third) now).1 in
-      of_table (is_hash_table (index_known y)) (nat_le 2 (how_many is_table (take j indexes))) (ap (λ (a : Access). is_table (Some (record (index_known y) { kind = access_kind a }))) table) no
+      of_table (is_hash_table (index_known y)) (nat_le most_tables (how_many is_table (take j indexes))) (ap (λ (a : Access). is_table (Some (record (index_known y) { kind = access_kind a }))) table) no
     where
       of_table : (a b : Bool) → a ≡ true → not (a && b) ≡ true → b ≡ false
       of_table true true e f = absurd (cc)

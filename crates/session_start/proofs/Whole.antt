@@ -14,7 +14,7 @@ use Rattle.index_set.specs.declared.info.IndexInfo.{IndexInfo}
 use Rattle.index_set.specs.declared.info.TableId.{TableId}
 use Rattle.index_set.specs.Complete.{HasKeys, IsComplete, IsHeld, key_at_place}
 use Rattle.index_set.specs.Inserts.{IsDoublingTree, IsElsewhere, IsNoTable}
-use Rattle.index_set.specs.Tables.{Tables, entries}
+use Rattle.index_set.specs.Tables.{HasTable, Tables, entries}
 use Rattle.index_set.proofs.Fronts.{keys_whole}
 use Rattle.tuple_file.specs.declared.tuples.Tuples.{Tuples}
 use Rattle.tuple_file.specs.Tuples.{row, rows, slots}
@@ -67,10 +67,10 @@ pub alone_ready : (state : State) (tables : Tables) (x : Indexed) (t : Tuples) �
     → (IsTrue state.tells → IsComplete state tables x.access (keys x.attribute (rows state.files t))) → MayBeUsed state tables x t
 alone_ready state tables x t alone doubling complete = record { held = held_alone state tables (slots state.files t) x.access alone doubling; complete = complete }
 
-pub table_ready : (state : State) (tables : Tables) (x : Indexed) (t : Tuples) (number : TableId) → x.access ≡ InTable number → length (entries tables number) ≡ slots state.files t
+pub table_ready : (state : State) (tables : Tables) (x : Indexed) (t : Tuples) (number : TableId) → x.access ≡ InTable number → HasTable x.access → length (entries tables number) ≡ slots state.files t
     → (IsTrue state.tells → entries tables number ≡ keys x.attribute (rows state.files t)) → MayBeUsed state tables x t
-table_ready state tables x t number is size complete = record {
-  held = subst (λ (a : Access). IsHeld state tables (slots state.files t) a) (sym is) size;
+table_ready state tables x t number is there size complete = record {
+  held = subst (λ (a : Access). IsHeld state tables (slots state.files t) a) (sym is) (subst HasTable is there, size);
   complete = λ told. subst (λ (a : Access). IsComplete state tables a (keys x.attribute (rows state.files t))) (sym is) (complete told);
 }
 
@@ -86,7 +86,7 @@ ready_access state old new t attribute Order access other same ks n h = h
 ready_access state old new t attribute (Tree file) access other same ks n h = h
 ready_access state old new t attribute (InTable number) access other same ks n h =
     let e = kept_entries old new number access other same in
-    (ap (λ (l : List ℤ). length l) e ∙ h.0, λ told. e ∙ h.1 told)
+    ((h.0.0, ap (λ (l : List ℤ). length l) e ∙ h.0.1), λ told. e ∙ h.1 told)
 
 ready_on : (state : State) (old new : Tables) (x : Indexed) (access : Access) (o : Option Tuples) → IsElsewhere x.access access → ((n : TableId) → IsNoTable n access → entries new n ≡ entries old n)
     → IsReadyOn state old x o → IsReadyOn state new x o

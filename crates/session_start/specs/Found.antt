@@ -10,6 +10,7 @@ use Rattle.index_set.specs.declared.info.Access.TheVariants.{Order, Tree, Table 
 use Rattle.index_set.specs.declared.info.TableId.{TableId}
 use Rattle.index_set.specs.declared.info.TableId.TheVariants.{First, Second}
 use Rattle.index_set.specs.Inserts.{IsDoublingTree, IsElsewhere}
+use Rattle.index_set.specs.Tables.{HasTable}
 use Rattle.space_model.specs.FileNames.{rows_file, tree_file}
 use Rattle.tuple_file.specs.declared.tuples.Tuples.{Tuples}
 use Rattle.tuple_file.specs.Tuples.{IsRowFile}
@@ -57,12 +58,13 @@ abbrev pub HasRowFile : Table → ℕ → Option Tuples → Type 0
 HasRowFile files k None = IsUnnamed files (rows_file k)
 HasRowFile files k (Some t) = IsRowFile files t × IsNamed files t.file (rows_file k)
 
--- an index is on an attribute of its relation that its kind allows, and a tree has its file
+-- an index is on an attribute of its relation that its kind allows, a tree has its file, and a table is there
 pub record IsIndexPlaced (state : State) (i : ℕ) (x : Indexed) (t : Tuples) : Type 0 where
   pub place : x.attribute < 8
   pub allowed : IsAllowed t.schema.attributes (info_of t x)
   pub file : HasFile state.files i x.access
   pub doubling : IsDoublingTree state x.access
+  pub table : HasTable x.access
 
 abbrev pub IsPlacedOn : State → ℕ → Indexed → Option Tuples → Type 0
 IsPlacedOn state i x None = ⊥

@@ -12,7 +12,7 @@ ghost use Rattle.db_model.specs.Step.{keys};
 ghost use Rattle.index_set.specs.declared.info.TableId.{TableId as AnyTable};
 ghost use Rattle.index_set.specs.Complete.{HasKeys, IsComplete, IsReadable, most_reads};
 ghost use Rattle.index_set.specs.Inserts.{IsDoublingTree, IsNoTable};
-ghost use Rattle.index_set.specs.Tables.{entries};
+ghost use Rattle.index_set.specs.Tables.{HasTable, IsTable, entries};
 ghost use Rattle.stored.specs.Sound.{IsFirst};
 ghost use Rattle.tuple_file.specs.Tuples.{HoldsRows, rows, slots};
 ghost use Rattle.session_model.specs.Indexed.{IsAllowed, info_of};
@@ -95,6 +95,7 @@ fn is_whole<V: Files>(
     requires place { index.now.attribute < 8 }
     requires allowed { IsAllowed tuples.now.schema.attributes (info_of tuples.now index.now) }
     requires tree { IsDoublingTree (V.state files.old) index.now.access }
+    requires table { HasTable index.now.access }
     ensures kept { let files_old = (V.state files.old).files in IsTrue (V.state files.old).tells
         → IfOk result (λ whole. Decides whole (IsKept files_old index.now.access
         (keys index.now.attribute (rows files_old tuples.now)))) }
@@ -150,6 +151,7 @@ fn fill<V: Files>(
     column: &KeyColumn,
     slots: u16,
 ) -> Result<bool, Failed>
+    requires there { IsTable table }
     requires width { IsWidth column.now.width }
     requires narrow { column.now.width ≢ 8 }
     requires fields { (slot : ℕ) → slot < slots → HasField (V.state files.old) column.now slot }

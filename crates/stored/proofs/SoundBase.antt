@@ -13,7 +13,7 @@ use Rattle.db_model.specs.declared.schemas.IndexKind.{IndexKind}
 use Rattle.db_model.specs.declared.schemas.IndexKind.TheVariants.{Inline, MaxHeap, MemHash}
 use Rattle.db_model.specs.declared.schemas.Schema.{Schema}
 use Rattle.db_model.specs.Catalog.{Index, catalog_of, index_at, relation_at, version_of}
-use Rattle.db_model.specs.Database.{Cursor, Relation, is_hash_table, used_things}
+use Rattle.db_model.specs.Database.{Cursor, Relation, is_hash_table, used_things, most_tables}
 use Rattle.db_model.specs.Row.{Row, rows_of}
 use Rattle.db_model.specs.Sound.{IsIndexOf, IsSoundDatabase, IsSoundIndex, IsSoundRelation, StandsIn, SuitKind}
 use Rattle.db_model.specs.Step.{allows, keys}
@@ -167,20 +167,20 @@ module _ (files : Table) (s : IsSoundTable files) where
       by_test true e = omega (arith, e)
       by_test false e = e
 
-  few_first : (k : ℕ) → k ≤ 8 → how_many is_table (take k (catalog_of bytes).indexes) ≤ 2
+  few_first : (k : ℕ) → k ≤ 8 → how_many is_table (take k (catalog_of bytes).indexes) ≤ most_tables
   few_first zero h = omega arith
   few_first (suc k) h = by_slot (get_or (catalog_of bytes).indexes k None) refl (few_first k (omega (arith, h))) (more_tables (catalog_of bytes).indexes k)
     where
-      third : (b : Bool) (n : ℕ) → (b && nat_le 2 n) ≡ false → n ≤ 2 → n + (if b then 1 else 0) ≤ 2
-      third true n e few = let less : n < 2 = le_false n e in omega (arith, less)
+      third : (b : Bool) (n : ℕ) → (b && nat_le most_tables n) ≡ false → n ≤ most_tables → n + (if b then 1 else 0) ≤ most_tables
+      third true n e few = let less : n < most_tables = le_false n e in omega (arith, less)
         where
-          le_false : (n : ℕ) → nat_le 2 n ≡ false → n < 2
+          le_false : (n : ℕ) → nat_le most_tables n ≡ false → n < most_tables
           le_false n h = grind (arith, nat_tests)
       third false n e few = omega (arith, few)
 
-      by_slot : (o : Option Index) → get_or (catalog_of bytes).indexes k None ≡ o → how_many is_table (take k (catalog_of bytes).indexes) ≤ 2
+      by_slot : (o : Option Index) → get_or (catalog_of bytes).indexes k None ≡ o → how_many is_table (take k (catalog_of bytes).indexes) ≤ most_tables
           → how_many is_table (take (suc k) (catalog_of bytes).indexes) ≤ how_many is_table (take k (catalog_of bytes).indexes) + (if is_table (get_or (catalog_of bytes).indexes k None) then 1 else 0)
-          → how_many is_table (take (suc k) (catalog_of bytes).indexes) ≤ 2
+          → how_many is_table (take (suc k) (catalog_of bytes).indexes) ≤ most_tables
       by_slot None e few more = let now = (rw e at more) in omega (arith, few, now)
       by_slot (Some i) e few more =
           let now = (rw e at more) in
@@ -192,7 +192,7 @@ module _ (files : Table) (s : IsSoundTable files) where
   all_indexes : take 8 (catalog_of bytes).indexes ≡ (catalog_of bytes).indexes
   all_indexes = refl
 
-  few_tables : length (filter is_hash_table (used_things (base_of files).indexes)) ≤ 2
+  few_tables : length (filter is_hash_table (used_things (base_of files).indexes)) ≤ most_tables
   few_tables =
       let sum = tables_used (catalog_of bytes).indexes in
       let few = few_first 8 (omega arith) in

@@ -10,7 +10,7 @@ use Rattle.catalog.specs.Rules.{breaks_index, breaks_relation, has_form, how_man
 use Rattle.catalog.proofs.PutRanges.{before_put, behind_put, here_put, other_index_put}
 use Rattle.db_model.specs.declared.schemas.Schema.{Schema}
 use Rattle.db_model.specs.Catalog.{Index, catalog_of, index_at, index_slot_bytes, index_slot_of, relation_at, relation_slot_of, version_mark, version_of}
-use Rattle.db_model.specs.Database.{is_hash_table}
+use Rattle.db_model.specs.Database.{is_hash_table, most_tables}
 use Rattle.padded.proofs.Facts.{both_parts, both_true, false_by, le_true, neither, not_not, true_le, untrue}
 use Rattle.stored.proofs.MendedBase.{slots_same}
 
@@ -70,9 +70,9 @@ thinned_third : (index : Index) (now old : List (Option Index)) → IsThinned no
 thinned_third index now old h e =
     let few = thinned_tables now old h in
     false_by (is_surplus_table now index) (λ third.
-    let parts = both_parts (is_hash_table index) (nat_le 2 (how_many is_table now)) third in
-    let two = true_le 2 (how_many is_table now) parts.1 in
-    let no : false ≡ true = sym e ∙ both_true (is_hash_table index) (nat_le 2 (how_many is_table old)) parts.0 (le_true 2 (how_many is_table old) (omega (arith, two, few))) in
+    let parts = both_parts (is_hash_table index) (nat_le most_tables (how_many is_table now)) third in
+    let two = true_le most_tables (how_many is_table now) parts.1 in
+    let no : false ≡ true = sym e ∙ both_true (is_hash_table index) (nat_le most_tables (how_many is_table old)) parts.0 (le_true most_tables (how_many is_table old) (omega (arith, two, few))) in
     let n : ⊥ = cc in n)
 
 -- an index may stand after fewer

@@ -15,4 +15,4 @@ returns-in-Tree-clause-held g c =
 
 pub returns-in-Table-clause-held : goal.returns-in-Table-clause-held
 returns-in-Table-clause-held g c =
-    filled_held (g.V.Files.state c.args.files.now) (g.V.Files.state c.fill_whole.new.files) c.fill_whole.new.tables c.args.info.now c.args.slots c.in-Table.table c.fill_whole.result c.in-Table.is c.fill_whole.ensures.size
+    filled_held (g.V.Files.state c.args.files.now) (g.V.Files.state c.fill_whole.new.files) c.fill_whole.new.tables c.args.info.now c.args.slots c.in-Table.table c.fill_whole.result c.in-Table.is c.requires.readable.table c.fill_whole.ensures.size

@@ -8,6 +8,7 @@ use Rattle.session_model.specs.Aheads.{aheads_of}
 use Rattle.session_model.specs.Running.{IsRunning}
 use Rattle.session_model.specs.View.{view}
 use Rattle.session_model.specs.Wanted.{WantsFew}
+use Rattle.session_model.proofs.Readable.{have_tables}
 use Rattle.session_indexes.proofs.Created.{asks_nothing, made_aheads, made_done, made_in_part, made_running, may_be, no_catalog, ready_for, refused_so, space_aheads, space_running, space_view, space_wants, tables_running}
 use Rattle.session_indexes.proofs.Refused.{no_relation}
 use Rattle.session_indexes.proofs.creating.create_index.Goals as goal
@@ -79,6 +80,10 @@ returns-in_default-cat g c = record {
     frame = search rules;
   };
 }
+
+pub make_index-requires-clause-tables : goal.make_index-requires-clause-tables
+make_index-requires-clause-tables g c =
+    have_tables (g.V.Files.state c.args.base.now.files) c.args.base.now.tables c.args.base.now.held c.args.base.now.opens c.requires.running
 
 pub make_index-requires-clause-ready : goal.make_index-requires-clause-ready
 make_index-requires-clause-ready g c =

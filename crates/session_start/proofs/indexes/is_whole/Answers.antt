@@ -59,6 +59,6 @@ returns-in-Table-clause-ready g c =
     let info : IndexInfo = record { attribute = x.attribute; column = c.column.result; access = x.access } in
     let columns = λ (told : IsTrue state.tells). column_keys state t info (λ slot below. c.column.ensures.key state slot c.requires.holds told below) in
     on_ok _ _ c.fill.result
-    (λ whole h complete. table_ready state c.fill.new.tables x t c.in-Table.table c.in-Table.is (h.0 complete ∙ c.count-slots.ensures.slots)
+    (λ whole h complete. table_ready state c.fill.new.tables x t c.in-Table.table c.in-Table.is c.requires.table (h.0 complete ∙ c.count-slots.ensures.slots)
     (λ told. h.1 told complete ∙ ap (λ (n : ℕ). map (key_of state c.column.result) (range_with_len 0 n)) c.count-slots.ensures.slots ∙ columns told))
     (both_ok _ _ c.fill.result c.fill.ensures.size (told_ok (IsTrue state.tells) _ c.fill.result c.fill.ensures.keys))
