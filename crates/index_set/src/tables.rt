@@ -14,7 +14,6 @@ use crate::info::TableId;
 use afl_base::{Failed, Files, KeyColumn, SlotNo};
 use db_model::MOST_TABLES;
 use index_memhash::{HashPlace, HashTable};
-use std::array;
 use std::marker::Model;
 
 const TABLES: usize = MOST_TABLES as usize;
@@ -40,13 +39,13 @@ impl Model for HashTables {
 
 impl HashTables {
     /// Empty tables.
-    // Inlined, so that the zeros are written where the tables are to stay.
+    // Inlined, and written out one by one, so that the zeros are written where the tables are to stay.
     #[inline(always)]
     pub fn new() -> HashTables
         ensures { (table : AnyTable) → entries result table ≡ [] }
     {
         HashTables {
-            tables: array::from_fn(|_| HashTable::new()),
+            tables: [HashTable::new(), HashTable::new()],
         }
     }
 
