@@ -30,8 +30,8 @@ use crate::start_error::StartError;
 use afl_base::{Failed, Fault, Files, Sink};
 use db_model::Command;
 use index_set::HashTables;
-use session_model::{Base, Held, Open, Step};
-use session_start::{BrokenRule, open_database};
+use session_model::{Base, Open, Step};
+use session_start::{BrokenRule, nothing_held, open_database};
 use std::marker::Model;
 
 /// A database in files, with at most four open cursors. Contracts see the files, the database, what
@@ -146,9 +146,12 @@ impl<V: Files> Session<V> {
     {
         self.stopped = true;
         self.lost = true;
-        match open_database(&mut self.base.files, &mut self.base.tables) {
-            Ok(Ok(held)) => {
-                self.base.held = held;
+        match open_database(
+            &mut self.base.files,
+            &mut self.base.tables,
+            &mut self.base.held,
+        ) {
+            Ok(Ok(())) => {
                 self.base.opens = none_open();
                 self.stopped = false;
                 self.lost = false;
@@ -249,16 +252,6 @@ fn none_open() -> [Option<Open>; 4]
     ensures { result ≡ replicate 4 None }
 {
     [None, None, None, None]
-}
-
-// Of no file.
-fn nothing_held() -> Held {
-    Held {
-        version: 0,
-        cat: None,
-        relations: [None, None, None, None, None, None, None, None],
-        indexes: [None; 8],
-    }
 }
 
 fn is_flash(stop: &Fault) -> bool

@@ -9,7 +9,6 @@ use Rattle.db_model.specs.Catalog.{Index, relation_slot_bytes, relation_slot_of,
 use Rattle.std.specs.Str.{bytes_eq}
 use Rattle.afl_base.specs.Files.{IsNamed, Table, size_at}
 use Rattle.space_model.specs.FileNames.{catalog_file}
-use Rattle.catalog.specs.declared.types.Catalog.{Catalog}
 use Rattle.catalog.specs.declared.types.IndexEntry.{IndexEntry}
 use Rattle.catalog.specs.CatalogFile.{IsCatalogSize, index_in, indexes_in}
 use Rattle.catalog.specs.Formed.{AreBehind, AreSchemas, HasCatalogSize, is_schema_slot}
@@ -86,11 +85,11 @@ behind_all relations xs k h all = subst (λ (ys : List (Option IndexEntry)). Are
 
 -- ---- the size of the catalog's file
 
-sizes : {E : Type 0} (files : Table) (cat : ℕ) → ((k : ℕ) → IsNamed files k catalog_file → k ≡ cat) → (r : Result Catalog E) → OnOk r (IsCatalogSize (size_at files cat)) → OnOk r (HasCatalogSize files)
-sizes files cat only (Ok catalog) h = λ id named. subst (λ (k : ℕ). IsCatalogSize (size_at files k)) (sym (only id named)) h
+sizes : {T E : Type 0} (files : Table) (cat : ℕ) → ((k : ℕ) → IsNamed files k catalog_file → k ≡ cat) → (r : Result T E) → OnOk r (IsCatalogSize (size_at files cat)) → OnOk r (HasCatalogSize files)
+sizes files cat only (Ok done) h = λ id named. subst (λ (k : ℕ). IsCatalogSize (size_at files k)) (sym (only id named)) h
 sizes files cat only (Err bad) h = tt
 
-pub read_sizes : {E F : Type 0} (files : Table) (cat : ℕ) → ((k : ℕ) → IsNamed files k catalog_file → k ≡ cat) → (r : Result (Result Catalog E) F) → IfOk r (λ inner. OnOk inner (IsCatalogSize (size_at files cat)))
+pub read_sizes : {T E F : Type 0} (files : Table) (cat : ℕ) → ((k : ℕ) → IsNamed files k catalog_file → k ≡ cat) → (r : Result (Result T E) F) → IfOk r (λ inner. OnOk inner (IsCatalogSize (size_at files cat)))
     → IfOk r (λ inner. OnOk inner (HasCatalogSize files))
 read_sizes files cat only (Ok inner) h = sizes files cat only inner h
 read_sizes files cat only (Err e) h = tt

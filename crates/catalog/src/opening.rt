@@ -15,21 +15,25 @@ use crate::types::{BadCatalog, Catalog, IndexEntry};
 use afl_base::{Failed, FileId, Files, IndexId, RelationId};
 use db_model::{IndexKind, Schema};
 
-/// Reads the catalog, and judges it and the names and kinds of all files. The inner `Err` comes exactly
-/// where one of the rules 14 to 18 is broken, and has the first with its place. The files stay. Over
-/// files that do not tell their bytes the answer is formed and fits the names, kinds and sizes of files.
-pub fn load<V: Files>(files: &mut V) -> Result<Result<Catalog, BadCatalog>, Failed>
+/// Reads the catalog into `catalog`, and judges it and the names and kinds of all files. The inner `Err`
+/// comes exactly where one of the rules 14 to 18 is broken, and has the first with its place: nothing is
+/// said of `catalog` then. The files stay. Over files that do not tell their bytes `catalog` is formed
+/// and fits the names, kinds and sizes of files.
+pub fn load<V: Files>(
+    files: &mut V,
+    catalog: &mut Catalog,
+) -> Result<Result<(), BadCatalog>, Failed>
     ensures catalog { IsTrue (V.state files.old).tells → IfOk result
-        (λ r. IfOk r (λ catalog. catalog_slots catalog ≡ catalog_in (V.state files.old).files)) }
+        (λ r. OnOk r (catalog_slots catalog.new ≡ catalog_in (V.state files.old).files)) }
     ensures sound { IsTrue (V.state files.old).tells → IfOk result
         (λ r. OnOk r (first_broken (V.state files.old).files ≡ None)) }
     ensures broken { IsTrue (V.state files.old).tells → IfOk result
         (λ r. IfErr r (λ bad. first_broken (V.state files.old).files ≡ Some (bad.rule, bad.place))) }
-    ensures formed { IfOk result (λ r. IfOk r (λ catalog. IsFormed catalog)) }
+    ensures formed { IfOk result (λ r. OnOk r (IsFormed catalog.new)) }
     ensures size { IfOk result (λ r. OnOk r (HasCatalogSize (V.state files.old).files)) }
     ensures known { IfOk result (λ r. OnOk r (first 32 (is_stranger (V.state files.old).files) ≡ None)) }
-    ensures matched { IfOk result (λ r. IfOk r (λ catalog. first 16
-        (breaks_files (V.state files.old).files catalog.relations (indexes_in catalog.indexes)) ≡ None)) }
+    ensures matched { IfOk result (λ r. OnOk r (first 16
+        (breaks_files (V.state files.old).files catalog.new.relations (indexes_in catalog.new.indexes)) ≡ None)) }
     ensures reads { V.reads files.new ≤ V.reads files.old + 99 }
     ensures frame { OnlyReads V.state V.lent V.reads V.faults files.old files.new result }
 {
@@ -37,44 +41,54 @@ pub fn load<V: Files>(files: &mut V) -> Result<Result<Catalog, BadCatalog>, Fail
         Some(place) => return Ok(Err(BadCatalog { rule: 14, place })),
         None => {},
     }
-    let catalog = match read_catalog(files)? {
-        Ok(catalog) => catalog,
+    match read_catalog(files, catalog)? {
+        Ok(()) => {}
         Err(bad) => return Ok(Err(bad)),
-    };
+    }
     match first_unmatched(files, &catalog.relations, &catalog.indexes) {
         Some(place) => Ok(Err(BadCatalog { rule: 18, place })),
-        None => Ok(Ok(catalog)),
+        None => Ok(Ok(())),
     }
 }
 
 // The catalog by itself: rules 15 to 17.
-fn read_catalog<V: Files>(files: &mut V) -> Result<Result<Catalog, BadCatalog>, Failed>
+fn read_catalog<V: Files>(
+    files: &mut V,
+    catalog: &mut Catalog,
+) -> Result<Result<(), BadCatalog>, Failed>
     ensures catalog { IsTrue (V.state files.old).tells → IfOk result
-        (λ r. IfOk r (λ catalog. catalog_slots catalog ≡ catalog_in (V.state files.old).files)) }
+        (λ r. OnOk r (catalog_slots catalog.new ≡ catalog_in (V.state files.old).files)) }
     ensures sound { IsTrue (V.state files.old).tells → IfOk result
         (λ r. OnOk r (broken_catalog (catalog_bytes_in (V.state files.old).files) ≡ None)) }
     ensures broken { IsTrue (V.state files.old).tells → IfOk result
         (λ r. IfErr r (λ bad. broken_catalog (catalog_bytes_in (V.state files.old).files) ≡ Some (bad.rule, bad.place))) }
-    ensures formed { IfOk result (λ r. IfOk r (λ catalog. IsFormed catalog)) }
+    ensures formed { IfOk result (λ r. OnOk r (IsFormed catalog.new)) }
     ensures size { IfOk result (λ r. OnOk r (HasCatalogSize (V.state files.old).files)) }
     ensures reads { V.reads files.new ≤ V.reads files.old + 99 }
     ensures frame { OnlyReads V.state V.lent V.reads V.faults files.old files.new result }
 {
     match files.find(catalog_file()) {
-        Some(cat) => read_file(files, cat),
-        None => Ok(Ok(Catalog::empty())),
+        Some(cat) => read_file(files, cat, catalog),
+        None => {
+            catalog.clear();
+            Ok(Ok(()))
+        }
     }
 }
 
-fn read_file<V: Files>(files: &mut V, cat: FileId) -> Result<Result<Catalog, BadCatalog>, Failed>
+fn read_file<V: Files>(
+    files: &mut V,
+    cat: FileId,
+    catalog: &mut Catalog,
+) -> Result<Result<(), BadCatalog>, Failed>
     requires { IsLive (V.state files.old).files cat }
     ensures catalog { IsTrue (V.state files.old).tells → IfOk result
-        (λ r. IfOk r (λ catalog. catalog_slots catalog ≡ catalog_of (bytes_at (V.state files.old).files cat))) }
+        (λ r. OnOk r (catalog_slots catalog.new ≡ catalog_of (bytes_at (V.state files.old).files cat))) }
     ensures sound { IsTrue (V.state files.old).tells → IfOk result
         (λ r. OnOk r (broken_catalog (bytes_at (V.state files.old).files cat) ≡ None)) }
     ensures broken { IsTrue (V.state files.old).tells → IfOk result
         (λ r. IfErr r (λ bad. broken_catalog (bytes_at (V.state files.old).files cat) ≡ Some (bad.rule, bad.place))) }
-    ensures formed { IfOk result (λ r. IfOk r (λ catalog. IsFormed catalog)) }
+    ensures formed { IfOk result (λ r. OnOk r (IsFormed catalog.new)) }
     ensures size { IfOk result (λ r. OnOk r (IsCatalogSize (size_at (V.state files.old).files cat))) }
     ensures reads { V.reads files.new ≤ V.reads files.old + 99 }
     ensures frame { OnlyReads V.state V.lent V.reads V.faults files.old files.new result }
@@ -84,21 +98,19 @@ fn read_file<V: Files>(files: &mut V, cat: FileId) -> Result<Result<Catalog, Bad
         None => return Ok(Err(BadCatalog { rule: 15, place: 0 })),
     };
     if files.size(cat) == 0 {
-        return Ok(Ok(Catalog::empty()));
+        catalog.clear();
+        return Ok(Ok(()));
     }
-    let relations = match load_relations(files, cat, version)? {
-        Ok(relations) => relations,
+    catalog.version = version;
+    match load_relations(files, cat, version, &mut catalog.relations)? {
+        Ok(()) => {}
         Err(place) => return Ok(Err(BadCatalog { rule: 16, place })),
-    };
-    let indexes = match load_indexes(files, cat, &relations)? {
-        Ok(indexes) => indexes,
+    }
+    match load_indexes(files, cat, &catalog.relations)? {
+        Ok(indexes) => catalog.indexes = indexes,
         Err(place) => return Ok(Err(BadCatalog { rule: 17, place })),
-    };
-    Ok(Ok(Catalog {
-        version,
-        relations,
-        indexes,
-    }))
+    }
+    Ok(Ok(()))
 }
 
 // The version, None where the file has no catalog's size or not the mark of its version.

@@ -10,20 +10,22 @@ use crate::decode::read_relation;
 use afl_base::{Failed, FileId, Files};
 use db_model::{Ident, Schema};
 
-// The relation slots, or the first that is not of the catalog's form or has the name of one before it.
+// Reads the relation slots, or answers the first that is not of the catalog's form or has the name of one
+// before it.
 pub fn load_relations<V: Files>(
     files: &mut V,
     cat: FileId,
     version: u8,
-) -> Result<Result<[Option<Schema>; 8], u16>, Failed>
+    relations: &mut [Option<Schema>; 8],
+) -> Result<Result<(), u16>, Failed>
     requires live { IsLive (V.state files.old).files cat }
     requires size { 1472 ≤ length (bytes_at (V.state files.old).files cat) }
     requires version { IsTrue (V.state files.old).tells
         → version ≡ version_of (bytes_at (V.state files.old).files cat) }
     ensures relations { IsTrue (V.state files.old).tells → IfOk result
-        (λ r. IfOk r (λ relations. relations ≡ (catalog_of (bytes_at (V.state files.old).files cat)).relations)) }
-    ensures eight { IfOk result (λ r. IfOk r (λ relations. length relations ≡ 8)) }
-    ensures formed { IfOk result (λ r. IfOk r (λ relations. AreSchemas version relations)) }
+        (λ r. OnOk r (relations.new ≡ (catalog_of (bytes_at (V.state files.old).files cat)).relations)) }
+    ensures eight { IfOk result (λ r. OnOk r (length relations.new ≡ 8)) }
+    ensures formed { IfOk result (λ r. OnOk r (AreSchemas version relations.new)) }
     ensures sound { IsTrue (V.state files.old).tells → IfOk result
         (λ r. OnOk r (first 8 (breaks_relation (bytes_at (V.state files.old).files cat)) ≡ None)) }
     ensures broken { IsTrue (V.state files.old).tells → IfOk result
@@ -31,14 +33,13 @@ pub fn load_relations<V: Files>(
     ensures reads { V.reads files.new ≤ V.reads files.old + 72 }
     ensures frame { OnlyReads V.state V.lent V.reads V.faults files.old files.new result }
 {
-    let mut relations = [None, None, None, None, None, None, None, None];
     for slot in 0..8u16 {
         match load_relation(files, cat, version, slot, &relations[..slot as usize])? {
             Some(relation) => relations[slot as usize] = relation,
             None => return Ok(Err(slot)),
         }
     }
-    Ok(Ok(relations))
+    Ok(Ok(()))
 }
 
 // What a relation slot holds, None where it breaks the rule. `before` has the relations of the slots

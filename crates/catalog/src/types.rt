@@ -35,6 +35,16 @@ impl Catalog {
             indexes: [None; 8],
         }
     }
+
+    /// Makes it a catalog with no relation and no index, in version 2.
+    // Not inlined, so that its caller has no second catalog on its stack.
+    #[inline(never)]
+    pub fn clear(&mut self)
+        ensures slots { catalog_slots self.new ≡ catalog_of [] }
+        ensures formed { IsFormed self.new }
+    {
+        *self = Catalog::empty();
+    }
 }
 
 /// The first broken rule, 14 to 18, and its place: a file, a slot, or 8 more than an index slot.

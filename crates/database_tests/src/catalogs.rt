@@ -88,8 +88,8 @@ fn broken<V: Files>(files: &mut V) -> Result<Option<BadCatalog>, FileError>
     requires idle { (V.state files.old).draft ≡ None }
     ensures idle { OnOk result ((V.state files.new).draft ≡ None) }
 {
-    match load(files)? {
-        Ok(_) => Ok(None),
+    match load(files, &mut Catalog::empty())? {
+        Ok(()) => Ok(None),
         Err(bad) => Ok(Some(bad)),
     }
 }
@@ -157,8 +157,9 @@ fn opens_version_1<V: Files>(files: &mut V) -> Result<bool, FileError>
 {
     old_catalog(files)?;
     new_file(files, b"T0", Kind::Doubling)?;
-    match load(files)? {
-        Ok(catalog) => Ok(catalog.version == 1 && has_relation(&catalog, 0, b"n", 1)),
+    let mut catalog = Catalog::empty();
+    match load(files, &mut catalog)? {
+        Ok(()) => Ok(catalog.version == 1 && has_relation(&catalog, 0, b"n", 1)),
         Err(_) => Ok(false),
     }
 }
@@ -222,8 +223,9 @@ fn reads_eight<V: Files>(files: &mut V) -> Result<bool, FileError>
     requires idle { (V.state files.old).draft ≡ None }
 {
     put_eight(files)?;
-    match load(files)? {
-        Ok(catalog) => Ok(has_eight(&catalog)),
+    let mut catalog = Catalog::empty();
+    match load(files, &mut catalog)? {
+        Ok(()) => Ok(has_eight(&catalog)),
         Err(_) => Ok(false),
     }
 }

@@ -4,7 +4,7 @@ ghost use Rattle.std.specs.Prelude.{◌≡◌, None, OnOk};
 
 use afl_base::{Failed, FileError, Files, Name};
 use afl_sim::MemSink;
-use catalog::load;
+use catalog::{Catalog, load};
 use stored_mend::{Report, mend_database, write_report};
 use stored_survey::may_be_cut;
 
@@ -19,7 +19,7 @@ pub fn is_mended<V: Files>(files: &mut V, lines: &[u8]) -> Result<bool, FileErro
     }
     let mut report = Report::new();
     mend_database(files, &mut report)?;
-    if !has_lines(&report, lines) || load(files)?.is_err() {
+    if !has_lines(&report, lines) || load(files, &mut Catalog::empty())?.is_err() {
         return Ok(false);
     }
     let mut again = Report::new();

@@ -9,7 +9,7 @@ use coffee_layout::BadImage;
 use coffee_volume::{Unlisted, Volume, list};
 use flash_views::Handed;
 use index_set::HashTables;
-use session_start::open_database;
+use session_start::{nothing_held, open_database};
 
 /// Judges an image by all twenty rules. Nothing is written, where it fails too. The inner error comes exactly where the
 /// image is not sound, and names its first broken rule and that rule's first place.
@@ -40,8 +40,9 @@ fn judge_database<V: Files>(files: &mut V) -> Result<Result<(), BadImage>, Faile
     ensures frame { OnlyReads V.state V.lent V.reads V.faults files.old files.new result }
 {
     let mut tables = HashTables::new();
-    match open_database(files, &mut tables) {
-        Ok(Ok(_)) => Ok(Ok(())),
+    let mut held = nothing_held();
+    match open_database(files, &mut tables, &mut held) {
+        Ok(Ok(())) => Ok(Ok(())),
         Ok(Err(broken)) => Ok(Err(BadImage {
             rule: broken.rule,
             place: broken.place,

@@ -20,38 +20,48 @@ use index_set::{Access, TableId};
 use session_model::{Held, Indexed};
 use tuple_file::Tuples;
 
-/// What is held of files for a catalog: each relation and each tree with its file.
-pub fn hold<V: Files>(files: &V, catalog: &Catalog) -> Held
+/// Holds nothing: no relation and no index.
+pub fn nothing_held() -> Held {
+    Held {
+        version: 0,
+        cat: None,
+        relations: [None, None, None, None, None, None, None, None],
+        indexes: [None; 8],
+    }
+}
+
+/// Holds of files what a catalog has: each relation and each tree with its file.
+pub fn hold<V: Files>(files: &V, catalog: &Catalog, held: &mut Held)
     requires formed { IsFormed catalog.now }
     requires size { HasCatalogSize (V.state files.now).files }
     requires known { first 32 (is_stranger (V.state files.now).files) ≡ None }
     requires matched { first 16 (breaks_files (V.state files.now).files catalog.now.relations
         (indexes_in catalog.now.indexes)) ≡ None }
-    ensures found { AreFilesFound (V.state files.now) result }
-    ensures catalog { slots_held result ≡ catalog_slots catalog.now }
+    ensures found { AreFilesFound (V.state files.now) held.new }
+    ensures catalog { slots_held held.new ≡ catalog_slots catalog.now }
 {
     // A look at any place tells that there are 32, and that names are distinct.
     let _first_is_live = files.live(FileId::default());
-    Held {
-        version: catalog.version,
-        cat: files.find(catalog_file()),
-        relations: hold_relations(files, &catalog.relations),
-        indexes: hold_indexes(files, &catalog.indexes),
-    }
+    held.version = catalog.version;
+    held.cat = files.find(catalog_file());
+    hold_relations(files, &catalog.relations, &mut held.relations);
+    held.indexes = hold_indexes(files, &catalog.indexes);
 }
 
-fn hold_relations<V: Files>(files: &V, schemas: &[Option<Schema>; 8]) -> [Option<Tuples>; 8]
+fn hold_relations<V: Files>(
+    files: &V,
+    schemas: &[Option<Schema>; 8],
+    relations: &mut [Option<Tuples>; 8],
+)
     requires matched { (k : ℕ) → k < 8
         → is_there (rows_file k) (V.state files.now).files ≡ is_some (get_or schemas.now k None) }
-    ensures eight { length result ≡ 8 }
+    ensures eight { length relations.new ≡ 8 }
     ensures relations { (k : ℕ) → k < 8
-        → IsRelationOf (V.state files.now).files k (get_or schemas.now k None) (get_or result k None) }
+        → IsRelationOf (V.state files.now).files k (get_or schemas.now k None) (get_or relations.new k None) }
 {
-    let mut relations = [None, None, None, None, None, None, None, None];
     for slot in 0..8u16 {
         relations[slot as usize] = hold_relation(files, slot, &schemas[slot as usize]);
     }
-    relations
 }
 
 fn hold_relation<V: Files>(files: &V, slot: u16, schema: &Option<Schema>) -> Option<Tuples>

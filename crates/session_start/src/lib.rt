@@ -6,4 +6,5 @@ mod indexes;
 mod rows;
 mod starting;
 
+pub use holding::nothing_held;
 pub use starting::{BrokenRule, open_database};

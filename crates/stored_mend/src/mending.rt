@@ -16,7 +16,7 @@ ghost use Rattle.stored_mend.specs.Interrupted.{CutMends, IsCutState};
 ghost use Rattle.stored_mend.specs.Listed.{IsListedTo, indexes_below, trees_below};
 ghost use Rattle.stored_mend.specs.Mending.{IsPutRight, MendsAsBefore, PutsRight, StandsForMended};
 ghost use Rattle.stored_mend.specs.Reported.{IsReported, Reports, ReportsInTurn};
-ghost use Rattle.stored_mend.specs.Stages.{HasWholeRelations, IsCatalogSound};
+ghost use Rattle.stored_mend.specs.Stages.{HasWholeRelations, IsCatalogSound, IsReadSound};
 ghost use Rattle.stored_mend.specs.Trees.{LacksRoom};
 
 use crate::catalogs::{complete_mark, mend_index, mend_relation, take_back_catalog};
@@ -126,8 +126,9 @@ fn sound_catalog<V: Files>(files: &mut V) -> Result<Option<Catalog>, Failed>
         → IfOk result (λ r. IfNone r (first_broken (V.state files.old).files ≢ None)) }
     ensures frame { OnlyReads V.state V.lent V.reads V.faults files.old files.new result }
 {
-    match load(files)? {
-        Ok(catalog) => Ok(Some(catalog)),
+    let mut catalog = Catalog::empty();
+    match load(files, &mut catalog)? {
+        Ok(()) => Ok(Some(catalog)),
         Err(_) => Ok(None),
     }
 }
@@ -206,23 +207,19 @@ fn mend_contents<V: Files>(
     ensures kept { OnOk result
         (PutsRight (LacksRoom V.state V.lacks) (V.state files.old) (V.state files.new)) }
     ensures sound { IsTrue (V.state files.old).tells
-        → catalog_slots catalog.now ≡ catalog_in (V.state files.old).files
-        → (half : Half) → IsCatalogSound (V.state files.old).files half
+        → (half : Half) → IsReadSound (catalog_slots catalog.now) (V.state files.old).files half
         → OnOk result (IsSoundTable (V.state files.new).files) }
     ensures cut { IsTrue (V.state files.old).tells
-        → catalog_slots catalog.now ≡ catalog_in (V.state files.old).files
-        → (half : Half) → IsCatalogSound (V.state files.old).files half
+        → (half : Half) → IsReadSound (catalog_slots catalog.now) (V.state files.old).files half
         → CutMends V.cuts V.mends V.state files.new (WhereFailed result)
         (λ db. IsPutRight (mended_base (V.state files.old).files) db) }
     ensures space { IsTrue (V.state files.old).tells
-        → catalog_slots catalog.now ≡ catalog_in (V.state files.old).files
-        → (half : Half) → IsCatalogSound (V.state files.old).files half
+        → (half : Half) → IsReadSound (catalog_slots catalog.now) (V.state files.old).files half
         → OnSpace result (λ _. IsCutState (V.state files.new)
         (λ db. IsPutRight (mended_base (V.state files.old).files) db)) }
     ensures frame { ChangesOrLacks V.state V.lent V.reads V.faults V.lacks files.old files.new result }
     ensures reported { IsTrue (V.state files.old).tells
-        → catalog_slots catalog.now ≡ catalog_in (V.state files.old).files
-        → (half : Half) → IsCatalogSound (V.state files.old).files half → OnOk result
+        → (half : Half) → IsReadSound (catalog_slots catalog.now) (V.state files.old).files half → OnOk result
         (ReportsInTurn 8 (V.state files.old) (V.state files.new) report.old.mended report.new.mended) }
 {
     mend_all_rows(files, catalog, report)?;
@@ -240,17 +237,15 @@ fn mend_all_rows<V: Files>(
         → catalog.now.relations ≡ (mended_catalog (V.state files.old).files).relations }
     requires idle { (V.state files.old).draft ≡ None }
     ensures kept { OnOk result (FillsIn (λ slot. ⊤) (V.state files.old) (V.state files.new)) }
-    ensures whole { IsTrue (V.state files.old).tells → catalog_slots catalog.now ≡ catalog_in (V.state files.old).files
-        → (half : Half) → IsCatalogSound (V.state files.old).files half
+    ensures whole { IsTrue (V.state files.old).tells
+        → (half : Half) → IsReadSound (catalog_slots catalog.now) (V.state files.old).files half
         → OnOk result ((after : Half) × HasWholeRelations (V.state files.new).files after) }
     ensures cut { IsTrue (V.state files.old).tells
-        → catalog_slots catalog.now ≡ catalog_in (V.state files.old).files
-        → (half : Half) → IsCatalogSound (V.state files.old).files half
+        → (half : Half) → IsReadSound (catalog_slots catalog.now) (V.state files.old).files half
         → CutMends V.cuts V.mends V.state files.new (WhereFailed result)
         (λ db. IsFilled (mended_base (V.state files.old).files) db) }
     ensures space { IsTrue (V.state files.old).tells
-        → catalog_slots catalog.now ≡ catalog_in (V.state files.old).files
-        → (half : Half) → IsCatalogSound (V.state files.old).files half
+        → (half : Half) → IsReadSound (catalog_slots catalog.now) (V.state files.old).files half
         → OnSpace result (λ _. IsCutState (V.state files.new)
         (λ db. IsFilled (mended_base (V.state files.old).files) db)) }
     ensures frame { ChangesOrLacks V.state V.lent V.reads V.faults V.lacks files.old files.new result }

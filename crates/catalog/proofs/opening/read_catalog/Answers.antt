@@ -13,7 +13,7 @@ pub returns-in-Some-clause-catalog : goal.returns-in-Some-clause-catalog
 returns-in-Some-clause-catalog g c = λ told.
     let files = (g.V.Files.state c.args.files.now).files in
     let e = bytes_found files c.in-Some.cat (named_found files c.in-Some.cat catalog_file (rw c.catalog_file.ensures at c.in-Some.ensures.found) (rw c.catalog_file.ensures at c.in-Some.ensures.only)) in
-    subst (λ (b : List ℕ). IfOk c.read_file.result (λ r. IfOk r (λ catalog. catalog_slots catalog ≡ catalog_of b))) (sym e) (c.read_file.ensures.catalog told)
+    subst (λ (b : List ℕ). IfOk c.read_file.result (λ r. OnOk r (catalog_slots c.read_file.new.catalog ≡ catalog_of b))) (sym e) (c.read_file.ensures.catalog told)
 
 pub returns-in-Some-clause-sound : goal.returns-in-Some-clause-sound
 returns-in-Some-clause-sound g c = λ told.
@@ -36,7 +36,7 @@ returns-in-Some-clause-size g c =
 pub returns-in-None-clause-catalog : goal.returns-in-None-clause-catalog
 returns-in-None-clause-catalog g c = λ told.
     let files = (g.V.Files.state c.args.files.now).files in
-    c.empty.ensures.slots ∙ ap catalog_of (sym (no_bytes files (named_none files catalog_file (rw c.catalog_file.ensures at c.in-None.ensures.none))))
+    c.clear.ensures.slots ∙ ap catalog_of (sym (no_bytes files (named_none files catalog_file (rw c.catalog_file.ensures at c.in-None.ensures.none))))
 
 pub returns-in-None-clause-sound : goal.returns-in-None-clause-sound
 returns-in-None-clause-sound g c = λ told.

@@ -9,7 +9,7 @@ use Rattle.catalog.proofs.Loading.{filled_all, filled_more, relation_broken, rel
 use Rattle.catalog.proofs.relations.load_relations.Goals as goal
 
 pub loop-slot-init : goal.loop-slot-init
-loop-slot-init g c = record { same = refl; long = refl; read = λ told. refl; sound = λ told. first_none _; formed = λ k. refl; lent = refl; reads = omega arith; later = omega arith; faults = omega arith }
+loop-slot-init g c = record { same = refl; long = search rules; read = λ told. refl; sound = λ told. first_none _; formed = λ k. refl; lent = refl; reads = omega arith; later = omega arith; faults = omega arith }
 
 pub returns-in-None-clause-broken : goal.returns-in-None-clause-broken
 returns-in-None-clause-broken g c = λ told.

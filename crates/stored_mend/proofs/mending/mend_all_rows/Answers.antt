@@ -51,38 +51,38 @@ pub returns-clause-kept : goal.returns-clause-kept
 returns-clause-kept g c = fills_more (λ k. k < c.loop-slot.slot) (λ k. ⊤) (g.V.Files.state c.args.files.now) (g.V.Files.state c.loop-slot.files) (λ k less. tt) c.loop-slot.invariant.kept
 
 pub returns-clause-whole : goal.returns-clause-whole
-returns-clause-whole g c =
-    makes_all (catalog_slots c.args.catalog.now) (g.V.Files.state c.args.files.now) (g.V.Files.state c.loop-slot.files) c.loop-slot.slot (omega (arith, c.loop-slot-test.false)) c.loop-slot.invariant.whole
+returns-clause-whole g c = λ told half read.
+    makes_all (catalog_slots c.args.catalog.now) (g.V.Files.state c.args.files.now) (g.V.Files.state c.loop-slot.files) c.loop-slot.slot (omega (arith, c.loop-slot-test.false)) c.loop-slot.invariant.whole told read.same half read.stage
 
 pub returns-in_err-mend_rows-clause-whole : goal.returns-in_err-mend_rows-clause-whole
-returns-in_err-mend_rows-clause-whole g c = λ told listed half stage. not_ok c.from_residual.result _ c.from_residual.ensures.0
+returns-in_err-mend_rows-clause-whole g c = λ told half read. not_ok c.from_residual.result _ c.from_residual.ensures.0
 
 pub returns-in_err-mend_rows-clause-cut : goal.returns-in_err-mend_rows-clause-cut
-returns-in_err-mend_rows-clause-cut g c = λ told listed half stage cuts failed.
+returns-in_err-mend_rows-clause-cut g c = λ told half read cuts failed.
     let old = g.V.Files.state c.args.files.now in
     let mid = g.V.Files.state c.loop-slot.files in
     let kept = c.loop-slot.invariant.kept in
-    let r = made_below (catalog_slots c.args.catalog.now) old mid c.loop-slot.slot c.loop-slot.invariant.whole told listed half stage in
-    let here = listed ∙ sym (ap catalog_of kept.catalog) in
+    let r = made_below (catalog_slots c.args.catalog.now) old mid c.loop-slot.slot c.loop-slot.invariant.whole told read.same half read.stage in
+    let here = read.same ∙ sym (ap catalog_of kept.catalog) in
     let is = err_is c.from_residual.result c.in_err-mend_rows.field-0.0 c.from_residual.ensures.1 in
     left_as
     (c.in_err-mend_rows.ensures.cut (kept.tells ∙ told) here r.0 r.1 cuts (failed_as _ _ c.in_err-mend_rows.field-0.0 c.from_residual.result is failed))
     (λ db filled. filled_all old mid c.loop-slot.slot kept told db filled)
 
 pub returns-in_err-mend_rows-clause-space : goal.returns-in_err-mend_rows-clause-space
-returns-in_err-mend_rows-clause-space g c = λ told listed half stage.
+returns-in_err-mend_rows-clause-space g c = λ told half read.
     let old = g.V.Files.state c.args.files.now in
     let mid = g.V.Files.state c.loop-slot.files in
     let kept = c.loop-slot.invariant.kept in
-    let r = made_below (catalog_slots c.args.catalog.now) old mid c.loop-slot.slot c.loop-slot.invariant.whole told listed half stage in
-    let here = listed ∙ sym (ap catalog_of kept.catalog) in
+    let r = made_below (catalog_slots c.args.catalog.now) old mid c.loop-slot.slot c.loop-slot.invariant.whole told read.same half read.stage in
+    let here = read.same ∙ sym (ap catalog_of kept.catalog) in
     let is = err_is c.from_residual.result c.in_err-mend_rows.field-0.0 c.from_residual.ensures.1 in
     space_as ⊤ _ c.in_err-mend_rows.field-0.0 c.from_residual.result is _ _
     (λ need left. state_as (g.V.Files.state c.mend_rows.new.files) (λ db filled. filled_all old mid c.loop-slot.slot kept told db filled) left)
     (c.in_err-mend_rows.ensures.space (kept.tells ∙ told) here r.0 r.1)
 
 pub returns-clause-cut : goal.returns-clause-cut
-returns-clause-cut g c = λ told listed half stage cuts failed. not_failed _ _ _ failed
+returns-clause-cut g c = λ told half read cuts failed. not_failed _ _ _ failed
 
 pub returns-in_err-mend_rows-clause-frame : goal.returns-in_err-mend_rows-clause-frame
 returns-in_err-mend_rows-clause-frame g c =

@@ -2,11 +2,10 @@ use Rattle.std.proofs.Common.{◌≡◌, ◌∙◌, ap, arith, length, refl, sub
 use Rattle.std.specs.Prelude.{IsTrue, ⊤}
 use Rattle.afl_base.specs.Files.{State}
 use Rattle.catalog.specs.Catalogs.{catalog_slots}
-use Rattle.catalog.specs.Rules.{catalog_in}
 use Rattle.padded.proofs.Facts.{err_is}
 use Rattle.stored.specs.Mended.{mended_base, mended_catalog}
 use Rattle.stored_mend.specs.Mending.{IsPutRight}
-use Rattle.stored_mend.specs.Stages.{IsCatalogSound}
+use Rattle.stored_mend.specs.Stages.{IsReadSound}
 use Rattle.stored_mend.proofs.CutCalls.{failed_as, left_as, left_read, not_failed, space_as, state_as}
 use Rattle.stored_mend.proofs.Framed.{kept_ok, not_ok, then_err}
 use Rattle.stored_mend.proofs.PutRight.{put_right_same}
@@ -31,8 +30,7 @@ pub returns-in_ok-mend_contents-in-Some-clause-sound : goal.returns-in_ok-mend_c
 returns-in_ok-mend_contents-in-Some-clause-sound g c = λ told half stage.
     let same = c.in_ok-found.ensures.frame.same in
     c.in_ok-mend_contents-in-Some.ensures.sound (subst (λ (s : State). IsTrue s.tells) (sym same) told)
-    (subst (λ (s : State). catalog_slots c.in-Some.catalog ≡ catalog_in s.files) (sym same) ((rw c.in-Some.is at c.in_ok-found.ensures.loaded) told))
-    half (subst (λ (s : State). IsCatalogSound s.files half) (sym same) stage)
+    half (subst (λ (s : State). IsReadSound (catalog_slots c.in-Some.catalog) s.files half) (sym same) (record { same = (rw c.in-Some.is at c.in_ok-found.ensures.loaded) told; stage = stage }))
 
 pub returns-in_ok-mend_contents-in-Some-clause-frame : goal.returns-in_ok-mend_contents-in-Some-clause-frame
 returns-in_ok-mend_contents-in-Some-clause-frame g c =
@@ -55,25 +53,23 @@ pub returns-in_err-mend_contents-in-Some-clause-cut : goal.returns-in_err-mend_c
 returns-in_err-mend_contents-in-Some-clause-cut g c = λ told half stage cuts failed.
     let same = c.in_ok-found.ensures.frame.same in
     let here = subst (λ (s : State). IsTrue s.tells) (sym same) told in
-    let loaded = subst (λ (s : State). catalog_slots c.in-Some.catalog ≡ catalog_in s.files) (sym same) ((rw c.in-Some.is at c.in_ok-found.ensures.loaded) told) in
-    let there = subst (λ (s : State). IsCatalogSound s.files half) (sym same) stage in
+    let read = subst (λ (s : State). IsReadSound (catalog_slots c.in-Some.catalog) s.files half) (sym same) (record { same = (rw c.in-Some.is at c.in_ok-found.ensures.loaded) told; stage = stage }) in
     let result = c.from_residual-in_err-mend_contents-in-Some.result in
     let is = err_is result c.in_err-mend_contents-in-Some.field-0.0 c.from_residual-in_err-mend_contents-in-Some.ensures.1 in
     left_as
-    (c.in_err-mend_contents-in-Some.ensures.cut here loaded half there cuts (failed_as _ _ c.in_err-mend_contents-in-Some.field-0.0 result is failed))
+    (c.in_err-mend_contents-in-Some.ensures.cut here half read cuts (failed_as _ _ c.in_err-mend_contents-in-Some.field-0.0 result is failed))
     (λ db right. subst (λ (s : State). IsPutRight (mended_base s.files) db) same right)
 
 pub returns-in_err-mend_contents-in-Some-clause-space : goal.returns-in_err-mend_contents-in-Some-clause-space
 returns-in_err-mend_contents-in-Some-clause-space g c = λ told half stage.
     let same = c.in_ok-found.ensures.frame.same in
     let here = subst (λ (s : State). IsTrue s.tells) (sym same) told in
-    let loaded = subst (λ (s : State). catalog_slots c.in-Some.catalog ≡ catalog_in s.files) (sym same) ((rw c.in-Some.is at c.in_ok-found.ensures.loaded) told) in
-    let there = subst (λ (s : State). IsCatalogSound s.files half) (sym same) stage in
+    let read = subst (λ (s : State). IsReadSound (catalog_slots c.in-Some.catalog) s.files half) (sym same) (record { same = (rw c.in-Some.is at c.in_ok-found.ensures.loaded) told; stage = stage }) in
     let result = c.from_residual-in_err-mend_contents-in-Some.result in
     let is = err_is result c.in_err-mend_contents-in-Some.field-0.0 c.from_residual-in_err-mend_contents-in-Some.ensures.1 in
     space_as ⊤ _ c.in_err-mend_contents-in-Some.field-0.0 result is _ _
     (λ need left. state_as (g.V.Files.state c.mend_contents.new.files) (λ db right. subst (λ (s : State). IsPutRight (mended_base s.files) db) same right) left)
-    (c.in_err-mend_contents-in-Some.ensures.space here loaded half there)
+    (c.in_err-mend_contents-in-Some.ensures.space here half read)
 
 pub returns-in_ok-mend_contents-in-Some-clause-cut : goal.returns-in_ok-mend_contents-in-Some-clause-cut
 returns-in_ok-mend_contents-in-Some-clause-cut g c = λ told half stage cuts failed. not_failed _ _ _ failed
@@ -91,8 +87,7 @@ returns-in_ok-mend_contents-in-Some-clause-reported g c = λ told half stage.
     let same = c.in_ok-found.ensures.frame.same in
     subst (λ (s : State). ReportsInTurn 8 s (g.V.Files.state c.mend_contents.new.files) c.args.report.now.mended c.mend_contents.new.report.mended) same
     (c.in_ok-mend_contents-in-Some.ensures.reported (subst (λ (s : State). IsTrue s.tells) (sym same) told)
-    (subst (λ (s : State). catalog_slots c.in-Some.catalog ≡ catalog_in s.files) (sym same) ((rw c.in-Some.is at c.in_ok-found.ensures.loaded) told))
-    half (subst (λ (s : State). IsCatalogSound s.files half) (sym same) stage))
+    half (subst (λ (s : State). IsReadSound (catalog_slots c.in-Some.catalog) s.files half) (sym same) (record { same = (rw c.in-Some.is at c.in_ok-found.ensures.loaded) told; stage = stage })))
 
 pub returns-in-None-clause-reported : goal.returns-in-None-clause-reported
 returns-in-None-clause-reported g c = λ told half stage. absurd ((rw c.in-None.is at c.in_ok-found.ensures.broken) told stage.catalog)
