@@ -10,21 +10,24 @@ ghost use Rattle.db_model.specs.Spelling.{IsSpelt, nodes_of};
 
 use crate::built::insert_into;
 use crate::conditions::minus;
-use crate::head::Head;
 use aql_lex::{keyword_len, literal_at, name_at, past_white};
-use db_model::{Command, Ident, Keyword, Token};
+use db_model::{Command, Few, Ident, Keyword, Token};
+
+/// The values of an INSERT, each as the token that it is.
+type Literals = Few<Token, 8>;
 
 /// Reads an INSERT: true comes exactly where the bytes spell one. After false the command is as it
-/// was. The list serves for the work.
+/// was.
 // Not inlined: what it puts on the stack would stand there while the machine reads, too.
 #[inline(never)]
-pub fn read_insert(bytes: &[u8], kept: &mut Head, command: &mut Command) -> bool
+pub fn read_insert(bytes: &[u8], command: &mut Command) -> bool
     ensures spelt { OnTrue result (IsSpelt command.new bytes.now) }
     ensures nodes { OnTrue result (nodes_of command.new ≡ []) }
     ensures no_insert { OnFalse result (IsNoInsert bytes.now) }
     ensures same { OnFalse result (command.new ≡ command.old) }
 {
-    let Some(relation) = keep_insert(bytes, kept) else {
+    let mut kept = Literals::new();
+    let Some(relation) = keep_insert(bytes, &mut kept) else {
         return false;
     };
     if !insert_into(kept.as_slice(), relation, command) {
@@ -34,11 +37,11 @@ pub fn read_insert(bytes: &[u8], kept: &mut Head, command: &mut Command) -> bool
 }
 
 // Keeps the values of an INSERT, and answers its relation.
-fn keep_insert(bytes: &[u8], kept: &mut Head) -> Option<Ident>
+fn keep_insert(bytes: &[u8], kept: &mut Literals) -> Option<Ident>
+    requires { kept.old ≡ [] }
     ensures kept { IfSome result (λ relation. KeepsInsert kept.new relation bytes.now) }
     ensures none { IfNone result (IsNoInsert bytes.now) }
 {
-    kept.clear();
     let Some(values) = behind_opening(bytes) else {
         return None;
     };
@@ -68,7 +71,7 @@ fn behind_opening(bytes: &[u8]) -> Option<&[u8]>
 }
 
 // Keeps the values up to the closing bracket, and answers what is left behind it.
-fn behind_values<'a>(bytes: &'a [u8], kept: &mut Head) -> Option<&'a [u8]>
+fn behind_values<'a>(bytes: &'a [u8], kept: &mut Literals) -> Option<&'a [u8]>
     requires { kept.old ≡ [] }
     ensures kept { IfSome result (λ behind. KeepsList kept.new bytes.now behind.now) }
     ensures none { IfNone result (HasNoList bytes.now) }
@@ -93,8 +96,8 @@ fn behind_values<'a>(bytes: &'a [u8], kept: &mut Head) -> Option<&'a [u8]>
 }
 
 // Keeps a value, and answers what is left behind it.
-fn behind_value<'a>(bytes: &'a [u8], kept: &mut Head) -> Option<&'a [u8]>
-    requires { length kept.old < 42 }
+fn behind_value<'a>(bytes: &'a [u8], kept: &mut Literals) -> Option<&'a [u8]>
+    requires { length kept.old < 8 }
     ensures kept { IfSome result (λ behind. KeepsValue kept.old kept.new bytes.now behind.now) }
     ensures none { IfNone result (HasNoValue bytes.now) }
 {
@@ -109,8 +112,8 @@ fn behind_value<'a>(bytes: &'a [u8], kept: &mut Head) -> Option<&'a [u8]>
 }
 
 // The number after a minus, which is kept with it.
-fn behind_negative<'a>(bytes: &'a [u8], kept: &mut Head) -> Option<&'a [u8]>
-    requires { length kept.old < 42 }
+fn behind_negative<'a>(bytes: &'a [u8], kept: &mut Literals) -> Option<&'a [u8]>
+    requires { length kept.old < 8 }
     ensures kept { IfSome result (λ behind. KeepsNegative kept.old kept.new bytes.now behind.now) }
     ensures none { IfNone result (HasNoNumber bytes.now) }
 {
@@ -134,8 +137,8 @@ fn negated(token: &Token) -> Option<Token>
     }
 }
 
-fn behind_literal<'a>(bytes: &'a [u8], kept: &mut Head) -> Option<&'a [u8]>
-    requires { length kept.old < 42 }
+fn behind_literal<'a>(bytes: &'a [u8], kept: &mut Literals) -> Option<&'a [u8]>
+    requires { length kept.old < 8 }
     ensures kept { IfSome result (λ behind. KeepsValue kept.old kept.new bytes.now behind.now) }
     ensures none { IfNone result (HasNoLiteral bytes.now) }
 {

@@ -19,4 +19,4 @@ mod stack;
 mod symbols;
 
 pub use laws::{each_command_is_read, readings_are_unique};
-pub use reading::{Parser, parse};
+pub use reading::parse;

@@ -1,6 +1,6 @@
 //! Commands of worked examples; the places of refusals are counted by hand.
 
-use aql_parse::{Parser, parse};
+use aql_parse::parse;
 use db_model::{Command, Ident, Node, Pool, Query, Refusal};
 
 const LONG: &[u8; 58] = b"SELECT k FROM s WHERE k = 1 AND NOT ( t < 'a' ) OR k <> -2";
@@ -222,25 +222,24 @@ fn commands_are_read_with_their_parts(rt: HostRuntime) {
     assert!(rt; refused_at(b"CREATE ATTRIBUTE t DOMAIN TIMES IN log") == Some(25));
 }
 
-// Reads the next command of a parser.
-fn next(parser: &mut Parser, bytes: &[u8], command: &mut Command) -> Result<(), Refusal> {
+// Reads a command into the place of an earlier one.
+fn next(bytes: &[u8], command: &mut Command) -> Result<(), Refusal> {
     if bytes.len() > 512 {
         return Err(Refusal::Long);
     }
-    parser.parse(bytes, command)
+    parse(bytes, command)
 }
 
 #[test]
-fn a_parser_reads_each_command_as_its_first(rt: HostRuntime) {
-    let mut parser = Parser::new();
+fn a_command_is_read_into_the_place_of_any_other(rt: HostRuntime) {
     let mut command = Command::FetchCursor { number: 0 };
-    assert!(rt; next(&mut parser, LONG, &mut command).is_ok());
-    let refused = next(&mut parser, b"INSERT (1, 2, 3 INTO s", &mut command);
+    assert!(rt; next(LONG, &mut command).is_ok());
+    let refused = next(b"INSERT (1, 2, 3 INTO s", &mut command);
     assert!(rt; refused == Err(Refusal::Syntax { at: 15 }));
     assert!(rt; nodes_of(&command) == Some(12));
-    assert!(rt; next(&mut parser, b"INSERT (1, 2, 3) INTO s", &mut command).is_ok());
-    assert!(rt; next(&mut parser, b"INSERT (4) INTO log", &mut command).is_ok());
+    assert!(rt; next(b"INSERT (1, 2, 3) INTO s", &mut command).is_ok());
+    assert!(rt; next(b"INSERT (4) INTO log", &mut command).is_ok());
     assert!(rt; inserts_into_log(&command));
-    assert!(rt; next(&mut parser, b"SELECT k FROM s", &mut command).is_ok());
+    assert!(rt; next(b"SELECT k FROM s", &mut command).is_ok());
     assert!(rt; nodes_of(&command) == Some(0));
 }

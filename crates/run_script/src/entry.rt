@@ -19,7 +19,7 @@ ghost use Rattle.run_model.specs.Scripts.{script_talk};
 
 use afl_base::{Failed, Fault, Files, Sink};
 use antelope_engine::{Session, Step};
-use aql_parse::{Parser, readings_are_unique};
+use aql_parse::{parse, readings_are_unique};
 use db_model::{Command, Refusal};
 use reply_text::write_refusal;
 use run_input::Ending;
@@ -43,7 +43,6 @@ pub fn refuse<K: Sink>(out: &mut K, refusal: &Refusal) -> Result<(), Ending>
 /// Carries out the bytes of a command, which are read into `command`, and writes the reply.
 pub fn carry_out<V: Files, K: Sink>(
     session: &mut Session<V>,
-    parser: &mut Parser,
     command: &mut Command,
     bytes: &[u8],
     out: &mut K,
@@ -65,7 +64,7 @@ pub fn carry_out<V: Files, K: Sink>(
         out.old out.new result }
 {
     readings_are_unique();
-    match parser.parse(bytes, command) {
+    match parse(bytes, command) {
         Ok(()) => execute(session, command, out),
         Err(refusal) => {
             refuse(out, &refusal)?;

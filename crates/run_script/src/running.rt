@@ -19,7 +19,6 @@ use crate::entry::{carry_out, refuse};
 use crate::piece::Piece;
 use afl_base::{Files, Sink};
 use antelope_engine::Session;
-use aql_parse::Parser;
 use db_model::{Command, Refusal};
 use run_input::{Ending, Taker};
 
@@ -28,8 +27,7 @@ use run_input::{Ending, Taker};
 pub struct Runner<'a, V: Files> {
     pub session: &'a mut Session<V>,
     pub piece: Piece,
-    // What reads commands, and the command at hand: kept in their places.
-    pub(crate) parser: Parser,
+    // The command at hand.
     pub(crate) command: Command,
 }
 
@@ -62,14 +60,7 @@ impl<'a, V: Files> Taker for Runner<'a, V> {
     ghost HasReplyAtEnd = { λ a. HasOne script_input a.piece (λ q. script_cut.left q) };
 
     fn take<K: Sink>(&mut self, out: &mut K, byte: u8) -> Result<(), Ending> {
-        take_byte(
-            self.session,
-            &mut self.parser,
-            &mut self.command,
-            &mut self.piece,
-            out,
-            byte,
-        )
+        take_byte(self.session, &mut self.command, &mut self.piece, out, byte)
     }
 
     fn take_plain(&mut self, bytes: &[u8]) -> usize {
@@ -118,7 +109,6 @@ impl<'a, V: Files> Taker for Runner<'a, V> {
 // Takes one byte of a script.
 fn take_byte<V: Files, K: Sink>(
     session: &mut Session<V>,
-    parser: &mut Parser,
     command: &mut Command,
     piece: &mut Piece,
     out: &mut K,
@@ -141,7 +131,7 @@ fn take_byte<V: Files, K: Sink>(
         piece.push(byte);
         return Ok(());
     }
-    let answered = answer_ended(session, parser, command, piece, out);
+    let answered = answer_ended(session, command, piece, out);
     piece.clear();
     answered?;
     Ok(())
@@ -185,7 +175,6 @@ fn take_end<V: Files, K: Sink>(
 // Answers what a piece asks for that a `;` ends. White space alone asks for nothing.
 fn answer_ended<V: Files, K: Sink>(
     session: &mut Session<V>,
-    parser: &mut Parser,
     command: &mut Command,
     piece: &Piece,
     out: &mut K,
@@ -216,7 +205,7 @@ fn answer_ended<V: Files, K: Sink>(
     if piece.bytes.is_empty() {
         return Ok(());
     }
-    carry_out(session, parser, command, piece.bytes.as_slice(), out)?;
+    carry_out(session, command, piece.bytes.as_slice(), out)?;
     Ok(())
 }
 

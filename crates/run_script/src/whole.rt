@@ -17,7 +17,6 @@ use crate::piece::Piece;
 use crate::running::Runner;
 use afl_base::{Files, Sink, Source};
 use antelope_engine::Session;
-use aql_parse::Parser;
 use db_model::Command;
 use run_input::{InputEnding, take_through};
 
@@ -47,7 +46,6 @@ pub fn answer_script<V: Files, S: Source, K: Sink>(
     let mut runner = Runner {
         session,
         piece: Piece::new(),
-        parser: Parser::new(),
         command: Command::FetchCursor { number: 0 },
     };
     run_through(&mut runner, script, out)

@@ -23,7 +23,6 @@ use crate::hearing::hear;
 use crate::replies::refuse;
 use afl_base::{Failed, Fault, Files, Sink};
 use antelope_engine::{Outcome, Session, Step};
-use aql_parse::Parser;
 use db_model::Command;
 use std::marker::{Brand, PhantomData};
 
@@ -36,7 +35,6 @@ use std::marker::{Brand, PhantomData};
 /// where that object counted a fault.
 pub fn answer<V: Files, K: Sink>(
     session: &mut Session<V>,
-    parser: &mut Parser,
     command: &mut Command,
     client: u8,
     bytes: &[u8],
@@ -58,7 +56,7 @@ pub fn answer<V: Files, K: Sink>(
     ensures frame { ChangesAndSends V.Files K.Sink session.old.files session.new.files
         out.old out.new result }
 {
-    match hear(parser, client, bytes, command) {
+    match hear(client, bytes, command) {
         Ok(()) => reply(session, client, command, out),
         Err(refusal) => match refuse(out, client, &refusal) {
             Ok(()) => Ok(Step::Done(Outcome::Refused)),

@@ -15,14 +15,12 @@ use crate::asking::answer;
 use crate::replies::refuse;
 use afl_base::{Failed, Fault, Files, Sink};
 use antelope_engine::{Session, Step};
-use aql_parse::Parser;
 use db_model::{Command, Refusal};
 use run_input::Ending;
 
 /// Answers a client's command, or writes that there is no space for it.
 pub fn carry_out<V: Files, K: Sink>(
     session: &mut Session<V>,
-    parser: &mut Parser,
     command: &mut Command,
     client: u8,
     bytes: &[u8],
@@ -45,7 +43,7 @@ pub fn carry_out<V: Files, K: Sink>(
     ensures frame { ChangesOrHalts V.Files K.Sink session.old.files session.new.files
         out.old out.new result }
 {
-    match answer(session, parser, command, client, bytes, out) {
+    match answer(session, command, client, bytes, out) {
         Ok(Step::Done(_)) => Ok(()),
         Ok(Step::NoSpace { need }) => match refuse(out, client, &Refusal::Space { need }) {
             Ok(()) => Err(Ending::Space),

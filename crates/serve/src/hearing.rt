@@ -12,24 +12,19 @@ ghost use Rattle.db_model.specs.Spelling.{nodes_of};
 ghost use Rattle.run_frames.specs.Frames.{Asked};
 ghost use Rattle.run_frames.specs.Served.{heard, numbered_cursor, own_cursor};
 
-use aql_parse::{Parser, readings_are_unique};
+use aql_parse::{parse, readings_are_unique};
 use db_model::{Command, Refusal};
 
 /// Reads the bytes of a client's command into `command`, with the client's own cursor where it names one;
 /// or says why it is refused.
-pub fn hear(
-    parser: &mut Parser,
-    client: u8,
-    bytes: &[u8],
-    command: &mut Command,
-) -> Result<(), Refusal>
+pub fn hear(client: u8, bytes: &[u8], command: &mut Command) -> Result<(), Refusal>
     requires short { length bytes.now ≤ 512 }
     ensures heard { (read : List ℕ → Result AnyCommand AnyRefusal) → IsReader read
         → heard read (Asked client bytes.now) ≡ read_as result command.new }
     ensures condition { OnOk result (IsCondition (nodes_of command.new)) }
 {
     readings_are_unique();
-    parser.parse(bytes, command)?;
+    parse(bytes, command)?;
     own_cursor(client, command)
 }
 

@@ -20,7 +20,6 @@ use crate::fed::Fed;
 use crate::replies::refuse;
 use afl_base::{Failed, Files, Sink};
 use antelope_engine::Session;
-use aql_parse::Parser;
 use db_model::{Command, Refusal};
 use run_input::{Ending, Taker};
 
@@ -29,8 +28,7 @@ use run_input::{Ending, Taker};
 pub struct Server<'a, V: Files> {
     pub session: &'a mut Session<V>,
     pub decoder: Decoder,
-    // What reads commands, and the command at hand: kept in their places.
-    pub(crate) parser: Parser,
+    // The command at hand.
     pub(crate) command: Command,
 }
 
@@ -67,7 +65,6 @@ impl<'a, V: Files> Taker for Server<'a, V> {
     fn take<K: Sink>(&mut self, out: &mut K, byte: u8) -> Result<(), Ending> {
         take_byte(
             self.session,
-            &mut self.parser,
             &mut self.command,
             &mut self.decoder,
             out,
@@ -121,7 +118,6 @@ impl<'a, V: Files> Taker for Server<'a, V> {
 // Takes one byte of a line.
 fn take_byte<V: Files, K: Sink>(
     session: &mut Session<V>,
-    parser: &mut Parser,
     command: &mut Command,
     decoder: &mut Decoder,
     out: &mut K,
@@ -141,7 +137,7 @@ fn take_byte<V: Files, K: Sink>(
         return Err(Ending::Flash);
     }
     let fed = decoder.feed(byte);
-    answer_fed(session, parser, command, decoder, fed, out)?;
+    answer_fed(session, command, decoder, fed, out)?;
     Ok(())
 }
 
@@ -175,7 +171,6 @@ fn take_end<V: Files, K: Sink>(
 // Answers the frame that the last byte ended, if it ended one.
 fn answer_fed<V: Files, K: Sink>(
     session: &mut Session<V>,
-    parser: &mut Parser,
     command: &mut Command,
     decoder: &Decoder,
     fed: Fed,
@@ -202,7 +197,7 @@ fn answer_fed<V: Files, K: Sink>(
         Fed::More => Ok(()),
         Fed::Frame => {
             let client = decoder.client();
-            match carry_out(session, parser, command, client, decoder.command(), out) {
+            match carry_out(session, command, client, decoder.command(), out) {
                 Ok(()) => Ok(()),
                 Err(halt) => Err(halt),
             }

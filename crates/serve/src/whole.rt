@@ -18,7 +18,6 @@ use crate::decoder::Decoder;
 use crate::serving::Server;
 use afl_base::{Files, Sink, Source};
 use antelope_engine::Session;
-use aql_parse::Parser;
 use db_model::Command;
 use run_input::{InputEnding, take_through};
 
@@ -48,7 +47,6 @@ pub fn serve_line<V: Files, S: Source, K: Sink>(
     let mut server = Server {
         session,
         decoder: Decoder::new(),
-        parser: Parser::new(),
         command: Command::FetchCursor { number: 1 },
     };
     serve_through(&mut server, line, out)
