@@ -82,6 +82,19 @@ pub record IsBlockFor (b : Block) (c : JoinCursor) : Type 0 where
   pub anew : c.at ≡ b.end → c.from ≡ 0
   pub rests : c.inner ≡ None
 
+-- it holds left rows from where the join stands, for which no right row was read yet
+pub record BeginsAt (b : Block) (c : JoinCursor) : Type 0 where
+  pub begins : b.begin ≡ c.at
+  pub anew : b.seen ≡ 0
+  pub some : c.at < b.end
+  pub within : b.end ≤ c.left_slots
+  pub few : b.end ≤ b.begin + 256
+
+-- a slot of the right side, which was read for the block
+pub record WasRead (slot : ℕ) (b : Block) (c : JoinCursor) : Type 0 where
+  pub seen : slot < b.seen
+  pub below : slot < c.right_slots
+
 abbrev pub MayReadBy : Block → JoinCursor → Type 0
 MayReadBy b c = IsTrue b.serves → IsBlockFor b c
 

@@ -9,7 +9,7 @@ use Rattle.db_model.specs.Answers.{selected}
 use Rattle.db_model.specs.Cost.{begin_cost, chosen_cost, passed}
 use Rattle.db_model.specs.Item.{selects}
 use Rattle.db_model.specs.Plan.{plan, ranges_of}
-use Rattle.db_model.specs.Row.{Row, no_row}
+use Rattle.db_model.specs.Row.{AllSuit, Row, no_row, row_length, tuple_of}
 use Rattle.index_set.specs.declared.candidates.Candidates.{Candidates}
 use Rattle.index_set.specs.declared.info.IndexInfo.{IndexInfo}
 use Rattle.index_set.specs.Plans.{kinds, slots_passed}
@@ -97,7 +97,17 @@ pub record Yields (found : Option ℕ) (tuple : List Value) (old new : SelectCur
   pub fits : Fits new.candidates state tables all
   pub reads : after + cost_ahead new.candidates all ≤ before + cost_ahead old.candidates all
 
+-- it failed at a row, with no more read than for all the rows ahead, and no more than to the next one
+pub record FailsRow (old : SelectCursor) (all : List Row) (before after : ℕ) : Type 0 where
+  pub ahead : after ≤ before + cost_ahead old.candidates all
+  pub row : after ≤ before + next_cost old all
+
 -- ---- what holds also where files do not tell
+
+-- the bytes of a row, whole, and its values suit their attributes
+pub record IsRowOf (attributes : List Attribute) (row : List ℕ) : Type 0 where
+  pub whole : length row ≡ row_length attributes
+  pub suits : AllSuit attributes (tuple_of attributes row)
 
 -- each index of a list is on an attribute of numbers
 abbrev pub AreOnNumbers : List Attribute → List IndexInfo → Type 0

@@ -9,7 +9,7 @@ ghost use Rattle.db_model.specs.Row.{Row, no_row};
 ghost use Rattle.tuple_file.specs.Column.{IsNumber};
 ghost use Rattle.tuple_file.specs.Tuples.{HoldsRows, rows, slots};
 ghost use Rattle.cursor.specs.Pairs.{HasLive, MayReadPairs, join_cost_ahead};
-ghost use Rattle.cursor.specs.Blocks.{AreMarked, FindsSlot, HasMet, HoldsLefts, IsBlockFor, IsBlockOf, IsSameBlock, LiesBetween, MayReadBy, cost_by_block, mark_of, number_held, number_of_row, number_of_value};
+ghost use Rattle.cursor.specs.Blocks.{AreMarked, BeginsAt, FindsSlot, HasMet, HoldsLefts, IsBlockFor, IsBlockOf, IsSameBlock, LiesBetween, MayReadBy, WasRead, cost_by_block, mark_of, number_held, number_of_row, number_of_value};
 
 use crate::join::JoinCursor;
 use afl_base::{Failed, Files, SlotNo};
@@ -281,11 +281,7 @@ impl Block {
         requires may_read { MayReadPairs (V.state files.old) cursor.now }
         requires here { cursor.now.at < cursor.now.left_slots }
         ensures kept { OnOk result (self.new.serves ≡ self.old.serves) }
-        ensures begins { OnOk result (self.new.begin ≡ cursor.now.at) }
-        ensures anew { OnOk result (self.new.seen ≡ 0) }
-        ensures some { OnOk result (cursor.now.at < self.new.end) }
-        ensures within { OnOk result (self.new.end ≤ cursor.now.left_slots) }
-        ensures few { OnOk result (self.new.end ≤ self.new.begin + 256) }
+        ensures begins { OnOk result (BeginsAt self.new cursor.now) }
         ensures marked { OnOk result (AreMarked self.new) }
         ensures lefts { IsTrue (V.state files.old).tells → OnOk result (
             IsNumber cursor.now.left.schema.attributes cursor.now.left_on
@@ -384,9 +380,8 @@ impl Block {
         requires block { IsBlockFor self.old cursor.now }
         requires inside { cursor.now.at < self.old.end }
         ensures kept { OnOk result (IsSameBlock self.old self.new) }
-        ensures seen { IfOk result (λ found. IfSome found (λ slot. slot < self.new.seen)) }
+        ensures seen { IfOk result (λ found. IfSome found (λ slot. WasRead slot self.new cursor.now)) }
         ensures within { OnOk result (self.new.seen ≤ cursor.now.right_slots) }
-        ensures below { IfOk result (λ found. IfSome found (λ slot. slot < cursor.now.right_slots)) }
         ensures finds { let all = rows (V.state files.old).files cursor.now.right in
             IsTrue (V.state files.old).tells → IfOk result (λ found.
             HasMet self.old cursor.now.right_on all
@@ -428,9 +423,8 @@ impl Block {
         requires row { nth ≡ cursor.now.at - self.old.begin }
         requires held { number_held self.old nth ≡ Some number.now }
         ensures kept { OnOk result (IsSameBlock self.old self.new) }
-        ensures seen { IfOk result (λ found. IfSome found (λ slot. slot < self.new.seen)) }
+        ensures seen { IfOk result (λ found. IfSome found (λ slot. WasRead slot self.new cursor.now)) }
         ensures within { OnOk result (self.new.seen ≤ cursor.now.right_slots) }
-        ensures below { IfOk result (λ found. IfSome found (λ slot. slot < cursor.now.right_slots)) }
         ensures finds { let all = rows (V.state files.old).files cursor.now.right in
             IsTrue (V.state files.old).tells → IfOk result (λ found.
             HasMet self.old cursor.now.right_on all

@@ -6,7 +6,7 @@ ghost use Rattle.std.specs.Prelude.{◌≡◌, ◌+◌, ◌*◌, ◌-◌, ◌<�
 ghost use Rattle.afl_base.specs.Keeping.{OnlyReads};
 ghost use Rattle.db_model.specs.Row.{Row};
 ghost use Rattle.tuple_file.specs.Tuples.{rows};
-ghost use Rattle.cursor.specs.Blocks.{HasMetRights, IsBlockFor, IsBlockOf, IsSameBlock, MayReadBy, PairsInBlock, PaysInBlock, YieldsByBlock, cost_by_block, cost_in_blocks};
+ghost use Rattle.cursor.specs.Blocks.{HasMetRights, IsBlockFor, IsBlockOf, IsSameBlock, MayReadBy, PairsInBlock, PaysInBlock, WasRead, YieldsByBlock, cost_by_block, cost_in_blocks};
 ghost use Rattle.cursor.specs.Pairs.{FitsPairs, MayReadPairs};
 
 use crate::block::{Block, number_in};
@@ -58,9 +58,8 @@ impl JoinCursor {
         requires block { IsBlockFor block.old self.now }
         requires inside { self.now.at < block.old.end }
         ensures kept { OnOk result (IsSameBlock block.old block.new) }
-        ensures seen { IfOk result (λ found. IfSome found (λ slot. slot < block.new.seen)) }
+        ensures seen { IfOk result (λ found. IfSome found (λ slot. WasRead slot block.new self.now)) }
         ensures within { OnOk result (block.new.seen ≤ self.now.right_slots) }
-        ensures below { IfOk result (λ found. IfSome found (λ slot. slot < self.now.right_slots)) }
         ensures pairs { let state = V.state files.old in let lefts = rows state.files self.now.left in
             let rights = rows state.files self.now.right in IsTrue state.tells → IfOk result (λ found.
             HasMetRights block.old self.now lefts rights

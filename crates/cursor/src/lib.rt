@@ -16,4 +16,4 @@ pub use join::JoinCursor;
 pub use laws::{
     nothing_is_left_of_no_slots, rows_that_come_change_no_answer, rows_that_come_change_no_pair,
 };
-pub use select::SelectCursor;
+pub use select::{SelectCursor, none_begun};

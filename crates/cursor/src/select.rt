@@ -16,17 +16,18 @@ ghost use Rattle.index_set.specs.Plans.{kinds};
 ghost use Rattle.index_set.specs.Walks.{Advances, Fits, Waits, cost_ahead, walk_of_search};
 ghost use Rattle.lvm.specs.Code.{IsCodeOf};
 ghost use Rattle.tuple_file.specs.Tuples.{HoldsRows, rows, slots};
-ghost use Rattle.cursor.specs.Remaining.{AreOnNumbers, BeginsBy, IsNewCursor, MayRead, Yields, next_cost, remaining, slots_to_answer};
+ghost use Rattle.cursor.specs.Remaining.{AreOnNumbers, BeginsBy, FailsRow, IsNewCursor, IsRowOf, MayRead, Yields, next_cost, remaining, slots_to_answer};
 
 use crate::fields::selects_row;
 use crate::walk::{Test, next_bytes, next_row};
 use afl_base::{Failed, Files, SlotNo};
 use db_model::{Attribute, Range, Tuple};
-use index_set::{Candidates, HashTables, Indexes};
+use index_set::{Candidates, HashTables, Indexes, Search};
 use lvm::Code;
 use tuple_file::Tuples;
 
-/// The rows of a relation that satisfy a condition, one after the other.
+/// The rows of a relation that satisfy a condition, one after the other. It lies where its owner puts it, and
+/// begins there: its code alone takes 1.3 KB, of which no copy is on the stack then.
 #[derive(Drop)]
 pub struct SelectCursor {
     pub tuples: Tuples,
@@ -61,50 +62,60 @@ fn ranges_of(code: &Code) -> [Range; 8]
     ]
 }
 
+/// The candidates of a cursor that has not begun: none.
+pub fn none_begun() -> Candidates
+    ensures { result.slots ≡ 0 }
+{
+    Candidates {
+        search: Search::Nothing,
+        place: None,
+        hint: None,
+        from: 0,
+        end: 0,
+        slots: 0,
+    }
+}
+
 impl SelectCursor {
     /// Begins over the slots that the relation has now. What is answered is fixed with that: the rows
     /// of these slots that the condition of the code selects.
     pub fn begin<V: Files>(
+        &mut self,
         files: &mut V,
         tables: &HashTables,
-        tuples: Tuples,
         indexes: &Indexes,
-        code: Code,
-    ) -> Result<SelectCursor, Failed>
-        requires holds { HoldsRows (V.state files.old) tuples }
-        requires numbers { AreOnNumbers tuples.schema.attributes indexes.now }
+    ) -> Result<(), Failed>
+        requires holds { HoldsRows (V.state files.old) self.old.tuples }
+        requires numbers { AreOnNumbers self.old.tuples.schema.attributes indexes.now }
         requires readable { let state = V.state files.old in
-            AreReadable state (slots state.files tuples) indexes.now }
-        ensures begins { let state = V.state files.old in let all = rows state.files tuples in
-            IsTrue state.tells → IfOk result (λ c.
-            (condition : Option Cond) → IsCodeOf tuples.schema.attributes condition code
+            AreReadable state (slots state.files self.old.tuples) indexes.now }
+        ensures begins { let state = V.state files.old in let all = rows state.files self.old.tuples in
+            let attributes = self.old.tuples.schema.attributes in IsTrue state.tells → OnOk result (
+            (condition : Option Cond) → IsCodeOf attributes condition self.old.code
             → AreIndexesOf state tables.now all indexes.now
-            → BeginsBy c tuples.schema.attributes condition indexes.now all) }
-        ensures walk { let ranges = ranges_of tuples.schema.attributes in IfOk result (λ c.
-            (condition : Option Cond) → IsCodeOf tuples.schema.attributes condition code
-            → walk_of_search c.candidates.search
-            ≡ walk_by (kinds indexes.now) (plan (kinds indexes.now) (ranges condition))) }
-        ensures fits { let state = V.state files.old in let all = rows state.files tuples in
-            IsTrue state.tells → IfOk result (λ c.
-            AreIndexesOf state tables.now all indexes.now → Fits c.candidates state tables.now all) }
-        ensures begun { let state = V.state files.old in
-            IfOk result (λ c. IsNewCursor c tuples code (slots state.files tuples) indexes.now) }
-        ensures may_read { IfOk result (λ c. MayRead (V.state files.old) tuples c.candidates) }
+            → BeginsBy self.new attributes condition indexes.now all) }
+        ensures walk { let attributes = self.old.tuples.schema.attributes in OnOk result (
+            (condition : Option Cond) → IsCodeOf attributes condition self.old.code
+            → walk_of_search self.new.candidates.search
+            ≡ walk_by (kinds indexes.now) (plan (kinds indexes.now) (ranges_of attributes condition))) }
+        ensures fits { let state = V.state files.old in let all = rows state.files self.old.tuples in
+            IsTrue state.tells → OnOk result (
+            AreIndexesOf state tables.now all indexes.now → Fits self.new.candidates state tables.now all) }
+        ensures begun { let count = slots (V.state files.old).files self.old.tuples in
+            OnOk result (IsNewCursor self.new self.old.tuples self.old.code count indexes.now) }
+        ensures may_read { OnOk result (MayRead (V.state files.old) self.old.tuples self.new.candidates) }
         ensures reads { let state = V.state files.old in
-            let ranges = ranges_of tuples.schema.attributes in
-            (condition : Option Cond) → IsCodeOf tuples.schema.attributes condition code
-            → V.reads files.new ≤ V.reads files.old
-            + begin_cost (slots state.files tuples) (plan (kinds indexes.now) (ranges condition)) }
+            let attributes = self.old.tuples.schema.attributes in
+            (condition : Option Cond) → IsCodeOf attributes condition self.old.code
+            → V.reads files.new ≤ V.reads files.old + begin_cost (slots state.files self.old.tuples)
+            (plan (kinds indexes.now) (ranges_of attributes condition)) }
         ensures frame { OnlyReads V.state V.lent V.reads V.faults files.old files.new result }
     {
-        let ranges = ranges_of(&code);
-        let slots = tuples.count(files);
+        let ranges = ranges_of(&self.code);
+        let slots = self.tuples.count(files);
         let candidates = Candidates::begin(files, tables, indexes, &ranges, slots)?;
-        Ok(SelectCursor {
-            tuples,
-            code,
-            candidates,
-        })
+        self.candidates = candidates;
+        Ok(())
     }
 
     /// Holds where in a tree it stands for a hint alone: what remains is the same, and it goes on rightly
@@ -184,20 +195,13 @@ impl SelectCursor {
             IfNone found (self.new.candidates.from ≡ self.new.candidates.slots)) }
         ensures stands { self.new ≡ record self.old { candidates = self.new.candidates } }
         ensures unmoved { OnErr result (self.new ≡ self.old) }
-        ensures suits { let attributes = self.old.tuples.schema.attributes in
-            IfOk result (λ found. IfSome found (λ _. AllSuit attributes (tuple_of attributes row.new))) }
-        ensures whole { IfOk result (λ found. IfSome found (λ _.
-            length row.new ≡ row_length self.old.tuples.schema.attributes)) }
+        ensures row { let attributes = self.old.tuples.schema.attributes in
+            IfOk result (λ found. IfSome found (λ _. IsRowOf attributes row.new)) }
         ensures size { length row.new ≡ length row.old }
         ensures may_read { MayRead (V.state files.old) self.new.tuples self.new.candidates }
-        ensures reads_err { let state = V.state files.old in
-            let all = rows state.files self.old.tuples in
+        ensures fails { let state = V.state files.old in let all = rows state.files self.old.tuples in
             IsTrue state.tells → OnErr result (Fits self.old.candidates state tables.now all
-            → V.reads files.new ≤ V.reads files.old + cost_ahead self.old.candidates all) }
-        ensures reads_failed { let state = V.state files.old in
-            let all = rows state.files self.old.tuples in
-            IsTrue state.tells → OnErr result (Fits self.old.candidates state tables.now all
-            → V.reads files.new ≤ V.reads files.old + next_cost self.old all) }
+            → FailsRow self.old all (V.reads files.old) (V.reads files.new)) }
         ensures frame { OnlyReads V.state V.lent V.reads V.faults files.old files.new result }
     {
         let mut candidates = self.candidates;

@@ -11,7 +11,7 @@ use crate::relation::Relation;
 use crate::volumes::mounted;
 use afl_base::Files;
 use afl_sim::MemFlash;
-use cursor::SelectCursor;
+use cursor::{SelectCursor, none_begun};
 use db_model::Tuple;
 use index_set::HashTables;
 use lvm::Code;
@@ -43,8 +43,12 @@ fn count_rows<V: Files>(
     let slots = relation.tuples.count(files);
     let code = code_for(relation, asked)?;
     let indexes = relation.indexes();
-    let tuples = relation.tuples.copy();
-    let mut cursor = SelectCursor::begin(files, tables, tuples, &indexes, code)?;
+    let mut cursor = SelectCursor {
+        tuples: relation.tuples.copy(),
+        code,
+        candidates: none_begun(),
+    };
+    cursor.begin(files, tables, &indexes)?;
     if !asked.is_for(&cursor.candidates.search) {
         return Err(Fail::new("another plan is chosen"));
     }

@@ -55,14 +55,13 @@ impl Code {
         ensures refused { let tree = condition_of condition.now in
             IfErr result (λ no. refusal list_names schema.now.attributes tree ≡ Some no) }
     {
-        let attributes = schema.attributes.as_slice();
-        let code = match translated(condition.as_slice(), attributes, list_names) {
-            Ok(code) => code,
-            Err(nth) => return Err(Refusal::NoAttribute { nth }),
+        let mut code = Code {
+            instructions: Few::new(),
         };
-        match ill_typed(code.instructions.as_slice(), attributes, list_names) {
+        let attributes = schema.attributes.as_slice();
+        match put_steps(condition, attributes, list_names, &mut code.instructions) {
             None => Ok(code),
-            Some(nth) => Err(Refusal::IllTyped { nth }),
+            Some(refusal) => Err(refusal),
         }
     }
 
@@ -98,25 +97,53 @@ impl Code {
     }
 }
 
-// The steps of the nodes, or the number of the first name that is no attribute.
-fn translated(nodes: &[Node], attributes: &[Attribute], list_names: u8) -> Result<Code, u8>
+// Puts the steps of a condition into an empty list, or tells how it is refused.
+fn put_steps(
+    condition: &Condition,
+    attributes: &[Attribute],
+    list_names: u8,
+    into: &mut Few<Instruction, 32>,
+) -> Option<Refusal>
+    requires condition { IsCondition condition.now }
+    requires attributes { length attributes.now ≤ 8 }
+    requires few { list_names ≤ 8 }
+    requires empty { into.old ≡ [] }
+    ensures code { result ≡ None → IsCodeOf attributes.now (condition_of condition.now) into.new }
+    ensures refused { refusal list_names attributes.now (condition_of condition.now) ≡ result }
+{
+    if let Err(nth) = translate(condition.as_slice(), attributes, list_names, into) {
+        return Some(Refusal::NoAttribute { nth });
+    }
+    match ill_typed(into.as_slice(), attributes, list_names) {
+        None => None,
+        Some(nth) => Some(Refusal::IllTyped { nth }),
+    }
+}
+
+// Puts the steps of the nodes into an empty list, or tells the number of the first name that is no attribute.
+fn translate(
+    nodes: &[Node],
+    attributes: &[Attribute],
+    list_names: u8,
+    into: &mut Few<Instruction, 32>,
+) -> Result<(), u8>
     requires nodes { length nodes.now ≤ 32 }
     requires attributes { length attributes.now ≤ 8 }
     requires few { list_names ≤ 8 }
-    ensures code { IfOk result (λ code. instructions_for attributes.now nodes.now ≡ Some code) }
+    requires empty { into.old ≡ [] }
+    ensures code { OnOk result (instructions_for attributes.now nodes.now ≡ Some into.new) }
     ensures known { let are = map (is_attribute attributes.now) (names_among nodes.now) in
         OnOk result (first_false list_names are ≡ None) }
     ensures missing { let are = map (is_attribute attributes.now) (names_among nodes.now) in
         IfErr result (λ nth. first_false list_names are ≡ Some nth) }
 {
-    let mut instructions = Few::new();
     let mut names = list_names;
     for node in nodes {
         let Some(instruction) = instruction_for(node, attributes) else {
             return Err(names + 1);
         };
         names += u8::from(matches!(node, Node::Attribute(_)));
-        instructions.push(instruction);
+        into.push(instruction);
     }
-    Ok(Code { instructions })
+    Ok(())
 }

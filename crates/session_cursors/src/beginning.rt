@@ -19,82 +19,97 @@ ghost use Rattle.session_model.specs.Running.{IsRunning, IsWaiting, IsWaitingJoi
 ghost use Rattle.session_model.specs.View.{join_left, project, project_pair, relation_of_rows, select_left};
 
 use afl_base::{Failed, Files};
-use cursor::{JoinCursor, SelectCursor};
+use cursor::{JoinCursor, SelectCursor, none_begun};
 use index_set::HashTables;
 use session_model::{Held, Open, OpenJoin, OpenSelect, indexes_of};
 use session_plans::{JoinPlan, SelectPlan};
 use tuple_file::Tuples;
 
-/// Begins a cursor over the relation in a slot, with the places of a list and a compiled condition.
+/// What a session knows beside its files: the hash tables, what it holds of the catalog, and the cursors.
+#[derive(Clone, Copy)]
+pub(crate) struct Memory<'a> {
+    pub(crate) tables: &'a HashTables,
+    pub(crate) held: &'a Held,
+    pub(crate) opens: &'a [Option<Open>],
+}
+
+/// A relation that a query reads: its slot, and its rows.
+#[derive(Clone, Copy)]
+pub(crate) struct Queried<'a> {
+    pub(crate) slot: u16,
+    pub(crate) tuples: &'a Tuples,
+}
+
+/// Begins a cursor over a relation, with the places of a list and a compiled condition.
+// Not inlined, so that the copies of a cursor are gone when the next one is made.
+#[inline(never)]
 pub(crate) fn begin_select<V: Files>(
     files: &mut V,
-    tables: &HashTables,
-    held: &Held,
-    opens: &[Option<Open>],
-    k: u16,
-    tuples: &Tuples,
+    memory: &Memory,
+    queried: &Queried,
     plan: SelectPlan,
 ) -> Result<OpenSelect, Failed>
-    requires running { IsRunning (V.state files.old) tables.now held.now opens.now }
-    requires there { get_or held.now.relations k None ≡ Some tuples.now }
-    ensures rows { let state = V.state files.old in let attributes = tuples.now.schema.attributes in
+    requires running { IsRunning (V.state files.old) memory.now.tables.now memory.now.held.now memory.now.opens.now }
+    requires there { get_or memory.now.held.now.relations queried.now.slot None ≡ Some queried.now.tuples.now }
+    ensures rows { let state = V.state files.old in let attributes = queried.now.tuples.now.schema.attributes in
         IsTrue state.tells → IfOk result (λ o.
         (condition : Option Cond) → IsCodeOf attributes condition plan.code → select_left state.files o
-        ≡ map (project plan.places) (selected attributes condition (rows state.files tuples.now))) }
-    ensures ahead { let state = V.state files.old in let attributes = tuples.now.schema.attributes in
-        let infos = infos_of k tuples.now held.now.indexes in IsTrue state.tells → IfOk result (λ o.
+        ≡ map (project plan.places) (selected attributes condition (rows state.files queried.now.tuples.now))) }
+    ensures ahead { let state = V.state files.old in let attributes = queried.now.tuples.now.schema.attributes in
+        let infos = infos_of queried.now.slot queried.now.tuples.now memory.now.held.now.indexes in
+        IsTrue state.tells → IfOk result (λ o.
         (condition : Option Cond) → IsCodeOf attributes condition plan.code → ahead_of_select state.files o
-        ≡ model.select_ahead tuples.now.schema.name (kinds infos) (ranges_of attributes condition)
-        (relation_of_rows state.files tuples.now) condition) }
-    ensures tuples { IfOk result (λ o. o.cursor.tuples ≡ tuples.now) }
-    ensures waits { IfOk result (λ o. IsWaiting (V.state files.old) held.now o.cursor) }
-    ensures reads { let attributes = tuples.now.schema.attributes in
-        let infos = infos_of k tuples.now held.now.indexes in
+        ≡ model.select_ahead queried.now.tuples.now.schema.name (kinds infos) (ranges_of attributes condition)
+        (relation_of_rows state.files queried.now.tuples.now) condition) }
+    ensures tuples { IfOk result (λ o. o.cursor.tuples ≡ queried.now.tuples.now) }
+    ensures waits { IfOk result (λ o. IsWaiting (V.state files.old) memory.now.held.now o.cursor) }
+    ensures reads { let attributes = queried.now.tuples.now.schema.attributes in
+        let infos = infos_of queried.now.slot queried.now.tuples.now memory.now.held.now.indexes in
         (condition : Option Cond) → IsCodeOf attributes condition plan.code
-        → V.reads files.new ≤ V.reads files.old + begin_cost (slots (V.state files.old).files tuples.now)
+        → V.reads files.new ≤ V.reads files.old + begin_cost (slots (V.state files.old).files queried.now.tuples.now)
         (plan_of (kinds infos) (ranges_of attributes condition)) }
     ensures frame { OnlyReads V.state V.lent V.reads V.faults files.old files.new result }
 {
-    let indexes = indexes_of(&held.indexes, k, tuples);
-    let cursor = SelectCursor::begin(files, tables, tuples.copy(), &indexes, plan.code)?;
-    Ok(OpenSelect {
-        cursor,
+    let indexes = indexes_of(&memory.held.indexes, queried.slot, queried.tuples);
+    let mut opened = OpenSelect {
+        cursor: SelectCursor {
+            tuples: queried.tuples.copy(),
+            code: plan.code,
+            candidates: none_begun(),
+        },
         places: plan.places,
-    })
+    };
+    opened.cursor.begin(files, memory.tables, &indexes)?;
+    Ok(opened)
 }
 
-/// Begins a cursor over the relations in two slots, with the places of a list and of the ON attribute.
-/// It reads nothing.
+/// Begins a cursor over two relations, with the places of a list and of the ON attribute. It reads nothing.
 pub(crate) fn begin_join<V: Files>(
     files: &V,
-    tables: &HashTables,
-    held: &Held,
-    opens: &[Option<Open>],
-    j: u16,
-    k: u16,
-    left: &Tuples,
-    right: &Tuples,
+    memory: &Memory,
+    left: &Queried,
+    right: &Queried,
     plan: JoinPlan,
 ) -> OpenJoin
-    requires running { IsRunning (V.state files.now) tables.now held.now opens.now }
-    requires left { get_or held.now.relations j None ≡ Some left.now }
-    requires right { get_or held.now.relations k None ≡ Some right.now }
+    requires running { IsRunning (V.state files.now) memory.now.tables.now memory.now.held.now memory.now.opens.now }
+    requires left { get_or memory.now.held.now.relations left.now.slot None ≡ Some left.now.tuples.now }
+    requires right { get_or memory.now.held.now.relations right.now.slot None ≡ Some right.now.tuples.now }
     ensures rows { let files = (V.state files.now).files in join_left files result
         ≡ map (project_pair plan.places)
-        (matching plan.left_on plan.right_on (rows files left.now) (rows files right.now)) }
+        (matching plan.left_on plan.right_on (rows files left.now.tuples.now) (rows files right.now.tuples.now)) }
     ensures ahead { let files = (V.state files.now).files in
-        let infos = infos_of k right.now held.now.indexes in ahead_of_join files result
-        ≡ model.join_ahead left.now.schema.name right.now.schema.name (plan.left_on, plan.right_on)
-        (kinds infos) (rows files left.now) (rows files right.now) }
-    ensures left { result.cursor.left ≡ left.now }
-    ensures right { result.cursor.right ≡ right.now }
-    ensures waits { IsWaitingJoin (V.state files.now) held.now result.cursor }
+        let infos = infos_of right.now.slot right.now.tuples.now memory.now.held.now.indexes in ahead_of_join files result
+        ≡ model.join_ahead left.now.tuples.now.schema.name right.now.tuples.now.schema.name (plan.left_on, plan.right_on)
+        (kinds infos) (rows files left.now.tuples.now) (rows files right.now.tuples.now) }
+    ensures left { result.cursor.left ≡ left.now.tuples.now }
+    ensures right { result.cursor.right ≡ right.now.tuples.now }
+    ensures waits { IsWaitingJoin (V.state files.now) memory.now.held.now result.cursor }
 {
-    let indexes = indexes_of(&held.indexes, k, right);
+    let indexes = indexes_of(&memory.held.indexes, right.slot, right.tuples);
     let cursor = JoinCursor::begin(
         files,
-        left.copy(),
-        right.copy(),
+        left.tuples.copy(),
+        right.tuples.copy(),
         indexes,
         plan.left_on,
         plan.right_on,

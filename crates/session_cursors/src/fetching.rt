@@ -62,6 +62,8 @@ fn take_row<V: Files>(
 }
 
 /// Takes the next row of an open cursor, and writes it and `rows 1`; `rows 0` where none is to come; or the refusal.
+// Not inlined, so that its row is on the stack of no other command.
+#[inline(never)]
 pub fn fetch_cursor<V: Files, K: Sink>(
     base: &mut Base<V>,
     number: &i64,

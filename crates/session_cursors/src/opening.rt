@@ -7,6 +7,7 @@ ghost use Rattle.db_model.specs.declared.commands.Command.TheVariants as command
 ghost use Rattle.session_model.specs.Carried.{Carries, Runs};
 ghost use Rattle.session_model.specs.Queries.{HasConditions};
 
+use crate::beginning::Memory;
 use crate::numbers::{is_open, place_of};
 use crate::queries::open_query;
 use afl_base::{Failed, Files};
@@ -33,13 +34,12 @@ pub fn open_cursor<V: Files>(
     if is_open(&base.opens[..], place) {
         return Ok(Answer::Refused(Refusal::CursorOpen));
     }
-    match open_query(
-        &mut base.files,
-        &base.tables,
-        &base.held,
-        &base.opens[..],
-        query,
-    )? {
+    let memory = Memory {
+        tables: &base.tables,
+        held: &base.held,
+        opens: &base.opens[..],
+    };
+    match open_query(&mut base.files, &memory, query)? {
         Ok(opened) => {
             base.opens[place] = Some(opened);
             Ok(Answer::Fine)

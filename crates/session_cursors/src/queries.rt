@@ -14,125 +14,136 @@ ghost use Rattle.session_model.specs.Running.{IsCursorSlot, IsRunning};
 ghost use Rattle.session_model.specs.View.{view};
 ghost use Rattle.session_cursors.specs.Opened.{BeginsAnswer};
 
-use crate::beginning::{begin_join, begin_select};
+use crate::beginning::{Memory, Queried, begin_join, begin_select};
 use afl_base::{Failed, Files};
 use db_model::{Condition, Ident, Idents, Query, Refusal};
-use index_set::HashTables;
 use session_model::{Held, Open, find_relation};
 use session_plans::{plan_join, plan_select};
-use tuple_file::Tuples;
 
-// The slot of the relation of a name, and the relation.
-fn named<'a>(held: &'a Held, name: &Ident) -> Option<(u16, &'a Tuples)>
+// The relation of a name.
+fn named<'a>(held: &'a Held, name: &Ident) -> Option<Queried<'a>>
     requires { length held.now.relations ≡ 8 }
     ensures found { MatchOption result (cell_from name.now 0 held.now.relations ≡ None)
-        (λ p. cell_from name.now 0 held.now.relations ≡ Some (p.0, p.1.now)) }
-    ensures there { IfSome result (λ p. get_or held.now.relations p.0 None ≡ Some p.1.now) }
+        (λ n. cell_from name.now 0 held.now.relations ≡ Some (n.slot, n.tuples.now)) }
+    ensures there { IfSome result (λ n. get_or held.now.relations n.slot None ≡ Some n.tuples.now) }
 {
     let k = find_relation(&held.relations, name)?;
     match &held.relations[k] {
-        Some(tuples) => Some((k as u16, tuples)),
+        Some(tuples) => Some(Queried {
+            slot: k as u16,
+            tuples,
+        }),
         None => None,
     }
 }
 
 // The cursor of a SELECT.
+// Not inlined, so that the copies of a plan are on the stack of no JOIN.
+#[inline(never)]
 fn open_select<V: Files>(
     files: &mut V,
-    tables: &HashTables,
-    held: &Held,
-    opens: &[Option<Open>],
+    memory: &Memory,
     list: &Idents,
     relation: &Ident,
     condition: &Condition,
 ) -> Result<Result<Open, Refusal>, Failed>
-    requires running { IsRunning (V.state files.old) tables.now held.now opens.now }
+    requires running { IsRunning (V.state files.old) memory.now.tables.now memory.now.held.now memory.now.opens.now }
     requires condition { IsCondition condition.now }
-    ensures begins { let db = view (V.state files.old).files held.now opens.now in
+    ensures begins { let db = view (V.state files.old).files memory.now.held.now memory.now.opens.now in
         let query = OfSelect list.now relation.now condition.now in
         IsTrue (V.state files.old).tells → IfOk result (λ came. IfOk came (λ o.
         BeginsAnswer db (V.state files.old).files query o)) }
-    ensures refused { let db = view (V.state files.old).files held.now opens.now in
+    ensures refused { let db = view (V.state files.old).files memory.now.held.now memory.now.opens.now in
         let query = OfSelect list.now relation.now condition.now in
         IfOk result (λ came. IfErr came (λ refusal. answer_of db query ≡ Err refusal)) }
-    ensures answered { let db = view (V.state files.old).files held.now opens.now in
+    ensures answered { let db = view (V.state files.old).files memory.now.held.now memory.now.opens.now in
         let query = OfSelect list.now relation.now condition.now in
         OnErr result (IsOk (answer_of db query)) }
     ensures waits { IfOk result (λ came. IfOk came (λ o.
-        IsCursorSlot (V.state files.old) held.now (Some o))) }
-    ensures reads { let db = view (V.state files.old).files held.now opens.now in
+        IsCursorSlot (V.state files.old) memory.now.held.now (Some o))) }
+    ensures reads { let db = view (V.state files.old).files memory.now.held.now memory.now.opens.now in
         let query = OfSelect list.now relation.now condition.now in
         V.reads files.new ≤ V.reads files.old + open_cost db query }
     ensures unread { IfOk result (λ came. OnErr came (V.reads files.new ≡ V.reads files.old)) }
     ensures frame { OnlyReads V.state V.lent V.reads V.faults files.old files.new result }
 {
-    let (k, tuples) = match named(held, relation) {
-        Some((k, tuples)) => (k, tuples),
+    let queried = match named(memory.held, relation) {
+        Some(queried) => queried,
         None => return Ok(Err(Refusal::NoRelation)),
     };
-    let plan = match plan_select(list, condition, &tuples.schema) {
+    let plan = match plan_select(list, condition, &queried.tuples.schema) {
         Ok(plan) => plan,
         Err(refusal) => return Ok(Err(refusal)),
     };
-    let opened = begin_select(files, tables, held, opens, k, tuples, plan)?;
+    let opened = begin_select(files, memory, &queried, plan)?;
     Ok(Ok(Open::Select(opened)))
 }
 
-// The cursor of a JOIN.
+// The cursor of a JOIN. It reads nothing, and never fails.
+// Not inlined, so that the copies of it are on the stack of no SELECT.
+#[inline(never)]
 fn open_join<V: Files>(
-    files: &V,
-    tables: &HashTables,
-    held: &Held,
-    opens: &[Option<Open>],
+    files: &mut V,
+    memory: &Memory,
     left: &Ident,
     right: &Ident,
     on: &Ident,
     list: &Idents,
-) -> Result<Open, Refusal>
-    requires running { IsRunning (V.state files.now) tables.now held.now opens.now }
-    ensures begins { let db = view (V.state files.now).files held.now opens.now in
+) -> Result<Result<Open, Refusal>, Failed>
+    requires running { IsRunning (V.state files.old) memory.now.tables.now memory.now.held.now memory.now.opens.now }
+    ensures begins { let db = view (V.state files.old).files memory.now.held.now memory.now.opens.now in
         let query = OfJoin left.now right.now on.now list.now in
-        IfOk result (λ o. BeginsAnswer db (V.state files.now).files query o) }
-    ensures refused { let db = view (V.state files.now).files held.now opens.now in
+        IfOk result (λ came. IfOk came (λ o. BeginsAnswer db (V.state files.old).files query o)) }
+    ensures refused { let db = view (V.state files.old).files memory.now.held.now memory.now.opens.now in
         let query = OfJoin left.now right.now on.now list.now in
-        IfErr result (λ refusal. answer_of db query ≡ Err refusal) }
-    ensures waits { IfOk result (λ o. IsCursorSlot (V.state files.now) held.now (Some o)) }
+        IfOk result (λ came. IfErr came (λ refusal. answer_of db query ≡ Err refusal)) }
+    ensures waits { IfOk result (λ came. IfOk came (λ o.
+        IsCursorSlot (V.state files.old) memory.now.held.now (Some o))) }
+    ensures answered { let db = view (V.state files.old).files memory.now.held.now memory.now.opens.now in
+        let query = OfJoin left.now right.now on.now list.now in
+        OnErr result (IsOk (answer_of db query)) }
+    ensures reads { let db = view (V.state files.old).files memory.now.held.now memory.now.opens.now in
+        let query = OfJoin left.now right.now on.now list.now in
+        V.reads files.new ≤ V.reads files.old + open_cost db query }
+    ensures unread { IfOk result (λ came. OnErr came (V.reads files.new ≡ V.reads files.old)) }
+    ensures frame { OnlyReads V.state V.lent V.reads V.faults files.old files.new result }
 {
-    let (j, lefts) = match named(held, left) {
-        Some((j, lefts)) => (j, lefts),
-        None => return Err(Refusal::NoRelation),
+    let lefts = match named(memory.held, left) {
+        Some(lefts) => lefts,
+        None => return Ok(Err(Refusal::NoRelation)),
     };
-    let (k, rights) = match named(held, right) {
-        Some((k, rights)) => (k, rights),
-        None => return Err(Refusal::NoRelation),
+    let rights = match named(memory.held, right) {
+        Some(rights) => rights,
+        None => return Ok(Err(Refusal::NoRelation)),
     };
-    let plan = match plan_join(on, list, &lefts.schema, &rights.schema) {
+    let plan = match plan_join(on, list, &lefts.tuples.schema, &rights.tuples.schema) {
         Ok(plan) => plan,
-        Err(refusal) => return Err(refusal),
+        Err(refusal) => return Ok(Err(refusal)),
     };
-    Ok(Open::Join(begin_join(files, tables, held, opens, j, k, lefts, rights, plan)))
+    let opened = begin_join(files, memory, &lefts, &rights, plan);
+    Ok(Ok(Open::Join(opened)))
 }
 
 /// The cursor of a query.
+// Not inlined, so that the copies of the answer are gone when the cursor is put into its place.
+#[inline(never)]
 pub(crate) fn open_query<V: Files>(
     files: &mut V,
-    tables: &HashTables,
-    held: &Held,
-    opens: &[Option<Open>],
+    memory: &Memory,
     query: &Query,
 ) -> Result<Result<Open, Refusal>, Failed>
-    requires running { IsRunning (V.state files.old) tables.now held.now opens.now }
+    requires running { IsRunning (V.state files.old) memory.now.tables.now memory.now.held.now memory.now.opens.now }
     requires condition { HasConditions query.now }
-    ensures begins { let db = view (V.state files.old).files held.now opens.now in
+    ensures begins { let db = view (V.state files.old).files memory.now.held.now memory.now.opens.now in
         IsTrue (V.state files.old).tells → IfOk result (λ came. IfOk came (λ o.
         BeginsAnswer db (V.state files.old).files query.now o)) }
-    ensures refused { let db = view (V.state files.old).files held.now opens.now in
+    ensures refused { let db = view (V.state files.old).files memory.now.held.now memory.now.opens.now in
         IfOk result (λ came. IfErr came (λ refusal. answer_of db query.now ≡ Err refusal)) }
-    ensures answered { let db = view (V.state files.old).files held.now opens.now in
+    ensures answered { let db = view (V.state files.old).files memory.now.held.now memory.now.opens.now in
         OnErr result (IsOk (answer_of db query.now)) }
     ensures waits { IfOk result (λ came. IfOk came (λ o.
-        IsCursorSlot (V.state files.old) held.now (Some o))) }
-    ensures reads { let db = view (V.state files.old).files held.now opens.now in
+        IsCursorSlot (V.state files.old) memory.now.held.now (Some o))) }
+    ensures reads { let db = view (V.state files.old).files memory.now.held.now memory.now.opens.now in
         V.reads files.new ≤ V.reads files.old + open_cost db query.now }
     ensures unread { IfOk result (λ came. OnErr came (V.reads files.new ≡ V.reads files.old)) }
     ensures frame { OnlyReads V.state V.lent V.reads V.faults files.old files.new result }
@@ -142,12 +153,12 @@ pub(crate) fn open_query<V: Files>(
             list,
             relation,
             condition,
-        } => open_select(files, tables, held, opens, list, relation, condition),
+        } => open_select(files, memory, list, relation, condition),
         Query::Join {
             left,
             right,
             on,
             list,
-        } => Ok(open_join(files, tables, held, opens, left, right, on, list)),
+        } => open_join(files, memory, left, right, on, list),
     }
 }

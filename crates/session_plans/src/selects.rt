@@ -22,6 +22,8 @@ pub struct SelectPlan {
 }
 
 /// What a SELECT of names asks of a relation of this schema, or how it is refused.
+// Not inlined, so that the copies of the code are gone when rows are read.
+#[inline(never)]
 pub fn plan_select(
     list: &Idents,
     condition: &Condition,

@@ -1,6 +1,7 @@
 -- What is written for a query, row by row, and what is read for it.
 use Rattle.std.specs.Prelude.{◌≡◌, ◌+◌, ◌≤◌, ℕ, Bool, true, false, List, [], ◌∷◌, flat_map, length, map, Option, Result, Ok, Err}
 use Rattle.std.specs.Io.KnownBytes.{append_known}
+use Rattle.afl_base.specs.Files.{State}
 use Rattle.afl_base.specs.declared.files.Files.{Ghosts as FilesOf}
 use Rattle.db_model.specs.declared.commands.Command.{Command}
 use Rattle.db_model.specs.declared.values.Value.{Value}
@@ -8,10 +9,13 @@ use Rattle.db_model.specs.Ahead.{cost_of}
 use Rattle.db_model.specs.ReplyText.{row_text}
 use Rattle.db_model.specs.Row.{Row}
 use Rattle.db_model.specs.Step.{Rows}
+use Rattle.cursor.specs.declared.block.Block.{Block}
 use Rattle.cursor.specs.declared.join.JoinCursor.{JoinCursor}
 use Rattle.cursor.specs.declared.select.SelectCursor.{SelectCursor}
-use Rattle.cursor.specs.Pairs.{pairs_left}
+use Rattle.cursor.specs.Blocks.{IsBlockOf, cost_by_block}
+use Rattle.cursor.specs.Pairs.{FitsPairs, pairs_left}
 use Rattle.cursor.specs.Remaining.{remaining}
+use Rattle.index_set.specs.Tables.{Tables}
 use Rattle.reply_text.specs.WroteLess.{WroteLess}
 use Rattle.session_model.specs.declared.base.Base.{Base}
 use Rattle.session_model.specs.declared.held.Side.{Side}
@@ -52,6 +56,12 @@ rows_left places c all = map (project places) (remaining c all)
 
 abbrev pub joined_left : List Side → JoinCursor → List Row → List Row → List (List Value)
 joined_left places c lefts rights = map (project_pair places) (pairs_left c lefts rights)
+
+-- a join by blocks goes on from where it stands after a call, and what the call read was paid from what was ahead
+pub record JoinsOn (b_old b_new : Block) (old new : JoinCursor) (state : State) (tables : Tables) (lefts rights : List Row) (before after : ℕ) : Type 0 where
+  pub fits : FitsPairs new state tables
+  pub holds : IsBlockOf b_new new lefts rights
+  pub reads : after + cost_by_block b_new new lefts rights ≤ before + cost_by_block b_old old lefts rights
 
 -- it read no more than the command may
 abbrev pub ReadsNoMore : {V : Type 0} → FilesOf V → Command → Base V → Base V → Type 0

@@ -28,7 +28,7 @@ use crate::finding::{Found, find};
 use crate::folding::{answers_of, new_tallies};
 use crate::passing::fold_all;
 use afl_base::{Failed, Fault, Files, Sink};
-use cursor::SelectCursor;
+use cursor::{SelectCursor, none_begun};
 use db_model::{AggList, Condition, Few, Ident, Refusal};
 use index_set::HashTables;
 use reply_text::{write_numbers, write_refusal, write_rows};
@@ -37,6 +37,8 @@ use session_plans::{AggregatePlan, plan_aggregates};
 
 /// Writes one row with the aggregates of a list, or the refusal. A MEDIAN takes several passes over the
 /// rows, and no buffer.
+// Not inlined, so that what it keeps is on the stack of no other query.
+#[inline(never)]
 pub fn aggregate<V: Files, K: Sink>(
     base: &mut Base<V>,
     list: &AggList,
@@ -79,6 +81,8 @@ struct Aggregating {
 }
 
 // The relation of the aggregates and what is asked of it, or how they are refused.
+// Not inlined, so that the copies of a plan are gone when rows are read.
+#[inline(never)]
 fn plan_folds(
     held: &Held,
     list: &AggList,
@@ -138,7 +142,17 @@ fn folded<V: Files>(
 {
     let Aggregating { found, plan } = aggregating;
     let AggregatePlan { items, code } = plan;
-    let mut cursor = SelectCursor::begin(files, tables, found.tuples, &found.indexes, code)?;
+    let Found {
+        tuples,
+        indexes,
+        ..
+    } = found;
+    let mut cursor = SelectCursor {
+        tuples,
+        code,
+        candidates: none_begun(),
+    };
+    cursor.begin(files, tables, &indexes)?;
     let mut tallies = new_tallies(items.as_slice());
     fold_all(files, tables, &mut cursor, items.as_slice(), &mut tallies)?;
     Ok(answers_of(items.as_slice(), &tallies))

@@ -45,6 +45,8 @@ pub fn ask<V: Files, K: Sink>(
     }
 }
 
+// Not inlined, so that what it keeps is on the stack of no JOIN.
+#[inline(never)]
 fn ask_select<V: Files, K: Sink>(
     base: &mut Base<V>,
     list: &Idents,
@@ -69,6 +71,8 @@ fn ask_select<V: Files, K: Sink>(
     }
 }
 
+// Not inlined, so that what it keeps is on the stack of no SELECT.
+#[inline(never)]
 fn ask_join<V: Files, K: Sink>(
     base: &mut Base<V>,
     left: &Ident,

@@ -16,7 +16,7 @@ ghost use Rattle.session_model.specs.Steps.{Replies};
 ghost use Rattle.session_model.specs.Carried.{Recites};
 ghost use Rattle.session_model.specs.View.{project_pair, view};
 ghost use Rattle.session_queries.specs.Finds.{HasEightSlots, IsRelationFound, IsReadableBy};
-ghost use Rattle.session_queries.specs.Replies.{WroteNext, WroteRows, joined_left};
+ghost use Rattle.session_queries.specs.Replies.{JoinsOn, WroteNext, WroteRows, joined_left};
 
 use crate::finding::{Found, find};
 use afl_base::{Fault, Files, Sink};
@@ -33,6 +33,20 @@ pub struct Joining {
     pub left: Found,
     pub right: Found,
     pub plan: JoinPlan,
+}
+
+// By what tables pairs are found, and which of their values are written.
+#[derive(Clone, Copy)]
+struct Terms<'a> {
+    tables: &'a HashTables,
+    places: &'a Few<Side, 8>,
+}
+
+// The tuples of a pair.
+#[derive(Drop)]
+struct Pair {
+    left: Tuple,
+    right: Tuple,
 }
 
 /// The relations of a JOIN and what is asked of them, or how it is refused.
@@ -74,6 +88,8 @@ pub fn plan_pairs(
 }
 
 /// Writes the pairs that a JOIN asks for, and their number.
+// Not inlined, so that its block, of 7 KB, is on the stack of no other query.
+#[inline(never)]
 pub fn join<V: Files, K: Sink>(
     files: &mut V,
     tables: &HashTables,
@@ -174,12 +190,13 @@ fn join_rows<V: Files, K: Sink>(
     ensures frame { Recites V.Files K.Sink files.old files.new out.old out.new result }
 {
     let most = u32::from(cursor.left_slots) * u32::from(cursor.right_slots);
-    let mut left = Tuple::new();
-    let mut right = Tuple::new();
+    let terms = Terms { tables, places };
+    let mut pair = Pair {
+        left: Tuple::new(),
+        right: Tuple::new(),
+    };
     for count in 0..most {
-        match join_next(
-            files, tables, cursor, block, places, &mut left, &mut right, out,
-        ) {
+        match join_next(files, &terms, cursor, block, &mut pair, out) {
             Ok(found) => {
                 if !found {
                     return Ok(count);
@@ -191,59 +208,48 @@ fn join_rows<V: Files, K: Sink>(
     Ok(most)
 }
 
-// Writes the next pair, and answers false exactly where there is none. Its tuples stand in `left` and
-// `right`, which are kept from pair to pair.
+// Writes the next pair, and answers false exactly where there is none. Its tuples stand in `pair`,
+// which is kept from pair to pair.
 fn join_next<V: Files, K: Sink>(
     files: &mut V,
-    tables: &HashTables,
+    terms: &Terms,
     cursor: &mut JoinCursor,
     block: &mut Block,
-    places: &Few<Side, 8>,
-    left: &mut Tuple,
-    right: &mut Tuple,
+    pair: &mut Pair,
     out: &mut K,
 ) -> Result<bool, Fault>
     requires may_read { MayReadPairs (V.state files.old) cursor.old }
     requires block { MayReadBy block.old cursor.old }
     ensures wrote { let state = V.state files.old in let lefts = rows state.files cursor.old.left in
         let rights = rows state.files cursor.old.right in
-        IsTrue state.tells → FitsPairs cursor.old state tables.now
+        IsTrue state.tells → FitsPairs cursor.old state terms.now.tables.now
         → IsBlockOf block.old cursor.old lefts rights
-        → WroteNext result (joined_left places.now cursor.old lefts rights)
-        (joined_left places.now cursor.new lefts rights) (K.held out.old) (K.held out.new) }
-    ensures fits { let state = V.state files.old in let lefts = rows state.files cursor.old.left in
-        let rights = rows state.files cursor.old.right in
-        IsTrue state.tells → OnOk result (FitsPairs cursor.old state tables.now
-        → IsBlockOf block.old cursor.old lefts rights → FitsPairs cursor.new state tables.now) }
-    ensures holds { let state = V.state files.old in let lefts = rows state.files cursor.old.left in
-        let rights = rows state.files cursor.old.right in
-        IsTrue state.tells → OnOk result (FitsPairs cursor.old state tables.now
-        → IsBlockOf block.old cursor.old lefts rights → IsBlockOf block.new cursor.new lefts rights) }
+        → WroteNext result (joined_left terms.now.places.now cursor.old lefts rights)
+        (joined_left terms.now.places.now cursor.new lefts rights) (K.held out.old) (K.held out.new) }
+    ensures goes_on { let state = V.state files.old in let lefts = rows state.files cursor.old.left in
+        let rights = rows state.files cursor.old.right in let tables = terms.now.tables.now in
+        IsTrue state.tells → OnOk result (FitsPairs cursor.old state tables
+        → IsBlockOf block.old cursor.old lefts rights → JoinsOn block.old block.new
+        cursor.old cursor.new state tables lefts rights (V.reads files.old) (V.reads files.new)) }
     ensures stands { OnOk result (cursor.new ≡ record cursor.old
         { at = cursor.new.at; from = cursor.new.from; inner = cursor.new.inner }) }
     ensures may_read { OnOk result (MayReadPairs (V.state files.old) cursor.new) }
     ensures block { OnOk result (MayReadBy block.new cursor.new) }
-    ensures reads { let state = V.state files.old in let lefts = rows state.files cursor.old.left in
-        let rights = rows state.files cursor.old.right in
-        IsTrue state.tells → OnOk result (FitsPairs cursor.old state tables.now
-        → IsBlockOf block.old cursor.old lefts rights
-        → V.reads files.new + cost_by_block block.new cursor.new lefts rights
-        ≤ V.reads files.old + cost_by_block block.old cursor.old lefts rights) }
     ensures reads_err { let state = V.state files.old in
         let lefts = rows state.files cursor.old.left in
         let rights = rows state.files cursor.old.right in
-        IsTrue state.tells → OnErr result (FitsPairs cursor.old state tables.now
+        IsTrue state.tells → OnErr result (FitsPairs cursor.old state terms.now.tables.now
         → IsBlockOf block.old cursor.old lefts rights
         → V.reads files.new ≤ V.reads files.old + cost_by_block block.old cursor.old lefts rights) }
     ensures frame { Recites V.Files K.Sink files.old files.new out.old out.new result }
 {
-    match cursor.next_by_block(files, tables, block, left, right) {
+    match cursor.next_by_block(files, terms.tables, block, &mut pair.left, &mut pair.right) {
         Ok(true) => {}
         Ok(false) => return Ok(false),
         Err(_) => return Err(Fault::Flash),
     }
     let mut row = Tuple::new();
-    project_pair(places, left, right, &mut row);
+    project_pair(terms.places, &pair.left, &pair.right, &mut row);
     match write_row(out, &row) {
         Ok(()) => Ok(true),
         Err(_) => Err(Fault::Sink),

@@ -26,7 +26,7 @@ ghost use Rattle.session_queries.specs.Replies.{WroteNext, rows_left};
 use crate::finding::{Found, find};
 use crate::listed::write_listed;
 use afl_base::{Fault, Files, Sink};
-use cursor::SelectCursor;
+use cursor::{SelectCursor, none_begun};
 use db_model::{Condition, Few, Ident, Idents, Refusal, Tuple};
 use index_set::HashTables;
 use reply_text::write_rows;
@@ -42,6 +42,8 @@ pub struct Selecting {
 }
 
 /// The relation of a SELECT and what is asked of it, or how it is refused.
+// Not inlined, so that the copies of a plan are gone when rows are read.
+#[inline(never)]
 pub fn plan(
     held: &Held,
     list: &Idents,
@@ -76,6 +78,8 @@ pub fn plan(
 }
 
 /// Writes the rows that a SELECT asks for, and their number.
+// Not inlined, so that its cursor is not on the stack while the next query is planned.
+#[inline(never)]
 pub fn select<V: Files, K: Sink>(
     files: &mut V,
     tables: &HashTables,
@@ -99,11 +103,18 @@ pub fn select<V: Files, K: Sink>(
 {
     let Selecting { found, plan } = selecting;
     let SelectPlan { places, code } = plan;
-    match SelectCursor::begin(files, tables, found.tuples, &found.indexes, code) {
-        Ok(cursor) => {
-            let mut cursor = cursor;
-            select_rows(files, tables, &mut cursor, &places, out)
-        }
+    let Found {
+        tuples,
+        indexes,
+        ..
+    } = found;
+    let mut cursor = SelectCursor {
+        tuples,
+        code,
+        candidates: none_begun(),
+    };
+    match cursor.begin(files, tables, &indexes) {
+        Ok(()) => select_rows(files, tables, &mut cursor, &places, out),
         Err(_) => Err(Fault::Flash),
     }
 }

@@ -14,44 +14,44 @@ use Rattle.session_cursors.proofs.beginning.begin_join.Goals as goal
 use Rattle.tuple_file.proofs.Columns.{rows_counted}
 
 pub indexes_of-indexes-requires-clause-short : goal.indexes_of-indexes-requires-clause-short
-indexes_of-indexes-requires-clause-short g c = (relation_there (g.V.Files.state c.args.files.now) c.args.tables.now c.args.held.now c.args.opens.now c.requires.running c.args.k c.args.right.now c.requires.right).holds.file.short
+indexes_of-indexes-requires-clause-short g c = (relation_there (g.V.Files.state c.args.files.now) c.args.memory.now.tables.now c.args.memory.now.held.now c.args.memory.now.opens.now c.requires.running c.args.right.now.slot c.args.right.now.tuples.now c.requires.right).holds.file.short
 
 pub indexes_of-indexes-requires-clause-numbers : goal.indexes_of-indexes-requires-clause-numbers
-indexes_of-indexes-requires-clause-numbers g c = are_numbers (g.V.Files.state c.args.files.now) c.args.tables.now c.args.held.now c.args.opens.now c.requires.running c.args.k c.args.right.now c.requires.right
+indexes_of-indexes-requires-clause-numbers g c = are_numbers (g.V.Files.state c.args.files.now) c.args.memory.now.tables.now c.args.memory.now.held.now c.args.memory.now.opens.now c.requires.running c.args.right.now.slot c.args.right.now.tuples.now c.requires.right
 
 pub begin-cursor-requires-clause-left : goal.begin-cursor-requires-clause-left
 begin-cursor-requires-clause-left g c =
     let state = g.V.Files.state c.args.files.now in
-    let tables = c.args.tables.now in
-    let held = c.args.held.now in
-    let opens = c.args.opens.now in
+    let tables = c.args.memory.now.tables.now in
+    let held = c.args.memory.now.held.now in
+    let opens = c.args.memory.now.opens.now in
     let r = c.requires.running in
-    let s = c.args.left.now in
-    let j = c.args.j in
+    let s = c.args.left.now.tuples.now in
+    let j = c.args.left.now.slot in
     let there_s = c.requires.left in
     subst (λ (z : Tuples). HoldsRows state z) (sym c.copy.ensures) (relation_there state tables held opens r j s there_s).holds
 
 pub begin-cursor-requires-clause-right : goal.begin-cursor-requires-clause-right
 begin-cursor-requires-clause-right g c =
     let state = g.V.Files.state c.args.files.now in
-    let tables = c.args.tables.now in
-    let held = c.args.held.now in
-    let opens = c.args.opens.now in
+    let tables = c.args.memory.now.tables.now in
+    let held = c.args.memory.now.held.now in
+    let opens = c.args.memory.now.opens.now in
     let r = c.requires.running in
-    let t = c.args.right.now in
-    let k = c.args.k in
+    let t = c.args.right.now.tuples.now in
+    let k = c.args.right.now.slot in
     let there_t = c.requires.right in
     subst (λ (z : Tuples). HoldsRows state z) (sym c.copy-2.ensures) (relation_there state tables held opens r k t there_t).holds
 
 pub begin-cursor-requires-clause-readable : goal.begin-cursor-requires-clause-readable
 begin-cursor-requires-clause-readable g c =
     let state = g.V.Files.state c.args.files.now in
-    let tables = c.args.tables.now in
-    let held = c.args.held.now in
-    let opens = c.args.opens.now in
+    let tables = c.args.memory.now.tables.now in
+    let held = c.args.memory.now.held.now in
+    let opens = c.args.memory.now.opens.now in
     let r = c.requires.running in
-    let t = c.args.right.now in
-    let k = c.args.k in
+    let t = c.args.right.now.tuples.now in
+    let k = c.args.right.now.slot in
     let there_t = c.requires.right in
     let infos : List IndexInfo = c.indexes_of-indexes.result in
     let e2 : c.copy-2.result ≡ t = c.copy-2.ensures in
@@ -62,8 +62,8 @@ begin-cursor-requires-clause-readable g c =
 pub returns-clause-rows : goal.returns-clause-rows
 returns-clause-rows g c =
     let state = g.V.Files.state c.args.files.now in
-    let s = c.args.left.now in
-    let t = c.args.right.now in
+    let s = c.args.left.now.tuples.now in
+    let t = c.args.right.now.tuples.now in
     let e1 : c.copy.result ≡ s = c.copy.ensures in
     let e2 : c.copy-2.result ≡ t = c.copy-2.ensures in
     let h = c.begin-cursor.ensures in
@@ -79,10 +79,10 @@ returns-clause-rows g c =
 pub returns-clause-ahead : goal.returns-clause-ahead
 returns-clause-ahead g c =
     let state = g.V.Files.state c.args.files.now in
-    let held = c.args.held.now in
-    let s = c.args.left.now in
-    let t = c.args.right.now in
-    let k = c.args.k in
+    let held = c.args.memory.now.held.now in
+    let s = c.args.left.now.tuples.now in
+    let t = c.args.right.now.tuples.now in
+    let k = c.args.right.now.slot in
     let infos : List IndexInfo = c.indexes_of-indexes.result in
     let e1 : c.copy.result ≡ s = c.copy.ensures in
     let e2 : c.copy-2.result ≡ t = c.copy-2.ensures in
@@ -96,11 +96,11 @@ returns-clause-ahead g c =
 pub returns-clause-waits : goal.returns-clause-waits
 returns-clause-waits g c =
     let state = g.V.Files.state c.args.files.now in
-    let held = c.args.held.now in
-    let s = c.args.left.now in
-    let t = c.args.right.now in
-    let j = c.args.j in
-    let k = c.args.k in
+    let held = c.args.memory.now.held.now in
+    let s = c.args.left.now.tuples.now in
+    let t = c.args.right.now.tuples.now in
+    let j = c.args.left.now.slot in
+    let k = c.args.right.now.slot in
     let there_s = c.requires.left in
     let there_t = c.requires.right in
     let infos : List IndexInfo = c.indexes_of-indexes.result in

@@ -7,41 +7,41 @@ use Rattle.session_cursors.proofs.queries.open_select.Goals as goal
 
 pub returns-in-None-clause-refused : goal.returns-in-None-clause-refused
 returns-in-None-clause-refused g c =
-    select_unnamed (g.V.Files.state c.args.files.now).files c.args.held.now c.args.opens.now c.args.list.now c.args.relation.now c.args.condition.now c.in-None.ensures.found
+    select_unnamed (g.V.Files.state c.args.files.now).files c.args.memory.now.held.now c.args.memory.now.opens.now c.args.list.now c.args.relation.now c.args.condition.now c.in-None.ensures.found
 
 pub returns-in-Err-clause-refused : goal.returns-in-Err-clause-refused
 returns-in-Err-clause-refused g c =
     let files = (g.V.Files.state c.args.files.now).files in
-    let t = c.in-Some.tuples.now in
-    select_refused files c.args.held.now c.args.opens.now c.args.list.now c.args.relation.now c.args.condition.now c.in-Some.k t c.in-Some.ensures.found c.in-Err.refusal (c.in-Err.ensures.refused (relation_of_rows files t) refl)
+    let t = c.in-Some.queried.tuples.now in
+    select_refused files c.args.memory.now.held.now c.args.memory.now.opens.now c.args.list.now c.args.relation.now c.args.condition.now c.in-Some.queried.slot t c.in-Some.ensures.found c.in-Err.refusal (c.in-Err.ensures.refused (relation_of_rows files t) refl)
 
 pub returns-in_err-opened-clause-answered : goal.returns-in_err-opened-clause-answered
 returns-in_err-opened-clause-answered g c =
     let files = (g.V.Files.state c.args.files.now).files in
-    let t = c.in-Some.tuples.now in
-    on_err _ (select_answered files c.args.held.now c.args.opens.now c.args.list.now c.args.relation.now c.args.condition.now c.in-Some.k t c.in-Some.ensures.found _ (c.in-Ok.ensures.rows (relation_of_rows files t) refl))
+    let t = c.in-Some.queried.tuples.now in
+    on_err _ (select_answered files c.args.memory.now.held.now c.args.memory.now.opens.now c.args.list.now c.args.relation.now c.args.condition.now c.in-Some.queried.slot t c.in-Some.ensures.found _ (c.in-Ok.ensures.rows (relation_of_rows files t) refl))
 
 pub returns-in_err-opened-clause-reads : goal.returns-in_err-opened-clause-reads
 returns-in_err-opened-clause-reads g c =
     let files = (g.V.Files.state c.args.files.now).files in
-    let t = c.in-Some.tuples.now in
+    let t = c.in-Some.queried.tuples.now in
     subst (λ (n : ℕ). g.V.Files.reads c.begin_select.new.files ≤ g.V.Files.reads c.args.files.now + n)
-    (sym (select_price files c.args.held.now c.args.opens.now c.args.list.now c.args.relation.now c.args.condition.now c.in-Some.k t c.in-Some.ensures.found))
+    (sym (select_price files c.args.memory.now.held.now c.args.memory.now.opens.now c.args.list.now c.args.relation.now c.args.condition.now c.in-Some.queried.slot t c.in-Some.ensures.found))
     (c.in_err-opened.ensures.reads (condition_of c.args.condition.now) c.in-Ok.ensures.code)
 
 pub returns-clause-begins : goal.returns-clause-begins
 returns-clause-begins g c = λ told.
     let files = (g.V.Files.state c.args.files.now).files in
-    let t = c.in-Some.tuples.now in
+    let t = c.in-Some.queried.tuples.now in
     let h = c.in_ok-opened.ensures in
     let tree = condition_of c.args.condition.now in
-    select_begins files c.args.held.now c.args.opens.now c.args.list.now c.args.relation.now c.args.condition.now c.in-Some.k t c.in-Some.ensures.found c.in_ok-opened.opened _
+    select_begins files c.args.memory.now.held.now c.args.memory.now.opens.now c.args.list.now c.args.relation.now c.args.condition.now c.in-Some.queried.slot t c.in-Some.ensures.found c.in_ok-opened.opened _
     (c.in-Ok.ensures.rows (relation_of_rows files t) refl) (h.rows told tree c.in-Ok.ensures.code) h.tuples (h.ahead told tree c.in-Ok.ensures.code)
 
 pub returns-clause-reads : goal.returns-clause-reads
 returns-clause-reads g c =
     let files = (g.V.Files.state c.args.files.now).files in
-    let t = c.in-Some.tuples.now in
+    let t = c.in-Some.queried.tuples.now in
     subst (λ (n : ℕ). g.V.Files.reads c.begin_select.new.files ≤ g.V.Files.reads c.args.files.now + n)
-    (sym (select_price files c.args.held.now c.args.opens.now c.args.list.now c.args.relation.now c.args.condition.now c.in-Some.k t c.in-Some.ensures.found))
+    (sym (select_price files c.args.memory.now.held.now c.args.memory.now.opens.now c.args.list.now c.args.relation.now c.args.condition.now c.in-Some.queried.slot t c.in-Some.ensures.found))
     (c.in_ok-opened.ensures.reads (condition_of c.args.condition.now) c.in-Ok.ensures.code)

@@ -12,21 +12,21 @@ use Rattle.session_queries.proofs.Costs.{begin_chosen, pass_paid, passes_paid}
 use Rattle.session_queries.proofs.aggregating.folded.Goals as goal
 use Rattle.tuple_file.proofs.Columns.{rows_counted}
 
-pub returns-in_err-cursor-clause-reads : goal.returns-in_err-cursor-clause-reads
-returns-in_err-cursor-clause-reads g c = λ t condition code.
+pub returns-in_err-begin-clause-reads : goal.returns-in_err-begin-clause-reads
+returns-in_err-begin-clause-reads g c = λ t condition code.
     let found = c.args.aggregating.found in
     let all = rows (g.V.Files.state c.args.files.now).files found.tuples in
     let ranges = ranges_of found.tuples.schema.attributes condition in
-    let begun = rw (sym (rows_counted (g.V.Files.state c.args.files.now).files found.tuples)) at (c.in_err-cursor.ensures.reads condition code) in
+    let begun = rw (sym (rows_counted (g.V.Files.state c.args.files.now).files found.tuples)) at (c.in_err-begin.ensures.reads condition code) in
     omega (arith, begun, begin_chosen (kinds found.indexes) ranges all, pass_paid (medians c.args.aggregating.plan.items) (chosen_cost (kinds found.indexes) ranges all))
 
 pub returns-clause-numbers : goal.returns-clause-numbers
 returns-clause-numbers g c = λ t condition code.
-    let h = c.in_ok-cursor.ensures in
+    let h = c.in_ok-begin.ensures in
     let found = c.args.aggregating.found in
     let items = c.args.aggregating.plan.items in
     let all = rows (g.V.Files.state c.args.files.now).files found.tuples in
-    let left = remaining c.in_ok-cursor.cursor all in
+    let left = remaining c.begin.new.self all in
     let indexes = c.requires.ready.complete t in
     let fresh = rw c.as_slice.ensures.items at c.new_tallies-tallies.ensures.fresh in
     let start : AreFolded items left c.new_tallies-tallies.result = λ i inside. (fresh i inside).told (column_values (item_at items i).1 left) in
@@ -38,7 +38,7 @@ returns-clause-numbers g c = λ t condition code.
 
 pub returns-clause-reads : goal.returns-clause-reads
 returns-clause-reads g c = λ t condition code.
-    let h = c.in_ok-cursor.ensures in
+    let h = c.in_ok-begin.ensures in
     let found = c.args.aggregating.found in
     let items = c.args.aggregating.plan.items in
     let all = rows (g.V.Files.state c.args.files.now).files found.tuples in
@@ -46,12 +46,12 @@ returns-clause-reads g c = λ t condition code.
     let indexes = c.requires.ready.complete t in
     let begun = rw (sym (rows_counted (g.V.Files.state c.args.files.now).files found.tuples)) at (h.reads condition code) in
     let passed = (rw (h.frame.same, h.begun.tuples, c.as_slice-2.ensures.items) at c.in_ok-fold_all.ensures.reads) t (h.fits t indexes) in
-    let paid = passes_paid (medians items) (begin_cost (length all) (plan (kinds found.indexes) ranges)) (cost_ahead c.in_ok-cursor.cursor.candidates all) (chosen_cost (kinds found.indexes) ranges all) ((h.begins t condition code indexes).cost) in
+    let paid = passes_paid (medians items) (begin_cost (length all) (plan (kinds found.indexes) ranges)) (cost_ahead c.begin.new.self.candidates all) (chosen_cost (kinds found.indexes) ranges all) ((h.begins t condition code indexes).cost) in
     omega (arith, begun, passed, paid)
 
 pub returns-in_err-fold_all-clause-reads : goal.returns-in_err-fold_all-clause-reads
 returns-in_err-fold_all-clause-reads g c = λ t condition code.
-    let h = c.in_ok-cursor.ensures in
+    let h = c.in_ok-begin.ensures in
     let found = c.args.aggregating.found in
     let items = c.args.aggregating.plan.items in
     let all = rows (g.V.Files.state c.args.files.now).files found.tuples in
@@ -59,5 +59,5 @@ returns-in_err-fold_all-clause-reads g c = λ t condition code.
     let indexes = c.requires.ready.complete t in
     let begun = rw (sym (rows_counted (g.V.Files.state c.args.files.now).files found.tuples)) at (h.reads condition code) in
     let passed = (rw (h.frame.same, h.begun.tuples, c.as_slice-2.ensures.items) at c.in_err-fold_all.ensures.reads) t (h.fits t indexes) in
-    let paid = passes_paid (medians items) (begin_cost (length all) (plan (kinds found.indexes) ranges)) (cost_ahead c.in_ok-cursor.cursor.candidates all) (chosen_cost (kinds found.indexes) ranges all) ((h.begins t condition code indexes).cost) in
+    let paid = passes_paid (medians items) (begin_cost (length all) (plan (kinds found.indexes) ranges)) (cost_ahead c.begin.new.self.candidates all) (chosen_cost (kinds found.indexes) ranges all) ((h.begins t condition code indexes).cost) in
     omega (arith, begun, passed, paid)

@@ -9,7 +9,7 @@ pub returns-in-Err-write_row-clause-wrote : goal.returns-in-Err-write_row-clause
 returns-in-Err-write_row-clause-wrote g c = λ told fits block.
     let files = (g.V.Files.state c.args.files.now).files in
     let k = c.args.cursor.now in
-    let places = c.args.places.now in
+    let places = c.args.terms.now.places.now in
     let rest = joined_left places c.next_by_block.new.self (rows files k.left) (rows files k.right) in
     let found : c.in-Ok-true.field-0 ≡ true = search rules in
     let yields = (rw found at c.in-Ok-true.ensures.yields) told fits block in

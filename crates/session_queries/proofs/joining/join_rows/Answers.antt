@@ -30,7 +30,8 @@ returns-then-not-found-clause-reads g c = λ t f b.
     let s = inv.told t f b in
     let lefts = ap (λ (x : Tuples). rows (g.V.Files.state c.args.files.now).files x) inv.left in
     let rights = ap (λ (x : Tuples). rows (g.V.Files.state c.args.files.now).files x) inv.right in
-    omega (arith, s.few, (rw (inv.same, lefts, rights) at c.in-Ok.ensures.reads) t s.fits s.block)
+    let on = (rw (inv.same, lefts, rights) at c.in-Ok.ensures.goes_on) t s.fits s.block in
+    omega (arith, s.few, on.reads)
 
 pub returns-in-Err-clause-wrote : goal.returns-in-Err-clause-wrote
 returns-in-Err-clause-wrote g c = λ t f b few.
@@ -75,11 +76,12 @@ loop-count-preserved g c =
       block = h.block;
       told = λ t f b.
           let s = inv.told t f b in
+          let on = (rw (inv.same, lefts, rights) at h.goes_on) t s.fits s.block in
           join_goes_on (g.V.Files.state c.args.files.now) c.args.tables.now (rows (g.V.Files.state c.args.files.now).files c.args.cursor.now.left) (rows (g.V.Files.state c.args.files.now).files c.args.cursor.now.right)
           c.args.places.now c.args.block.now c.loop-count.block c.join_next.new.block c.args.cursor.now c.loop-count.cursor c.join_next.new.cursor (g.K.Sink.held c.args.out.now) (g.K.Sink.held c.loop-count.out) (g.K.Sink.held c.join_next.new.out)
           c.loop-count.count (g.V.Files.reads c.args.files.now) (g.V.Files.reads c.loop-count.files) (g.V.Files.reads c.join_next.new.files) s
           (rw found at ((rw (inv.same, lefts, rights) at h.wrote) t s.fits s.block))
-          ((rw (inv.same, lefts, rights) at h.fits) t s.fits s.block) ((rw (inv.same, lefts, rights) at h.holds) t s.fits s.block) ((rw (inv.same, lefts, rights) at h.reads) t s.fits s.block);
+          on.fits on.holds on.reads;
     }
 
 pub returns-clause-wrote : goal.returns-clause-wrote

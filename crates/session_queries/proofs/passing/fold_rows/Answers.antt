@@ -16,7 +16,8 @@ pub push_all-requires-clause-suits : goal.push_all-requires-clause-suits
 push_all-requires-clause-suits g c =
     let inv = c.rows.invariant in
     let attributes = c.args.cursor.now.tuples.schema.attributes in
-    let suit = rw c.in-Ok-Some.field-0-is at c.in-Ok-Some.ensures.suits in
+    let whole = rw c.in-Ok-Some.field-0-is at c.in-Ok-Some.ensures.row in
+    let suit = whole.suits in
     let same : c.as_slice.result.now ≡ attributes = c.as_slice.ensures.items ∙ ap (λ (x : SelectCursor). x.tuples.schema.attributes) c.in-Ok-Some.ensures.stands ∙ ap (λ (t : Tuples). t.schema.attributes) inv.tuples in
     let row = c.next_bytes.new.row in
     subst (λ (those : List Attribute). (i : ℕ) → i < length c.args.items.now → Suits (tally_at c.rows.tallies i).fold.agg (value_at (tuple_of those row) (item_at c.args.items.now i).1)) (sym same)
@@ -69,7 +70,8 @@ pub returns-in-Err-clause-reads : goal.returns-in-Err-clause-reads
 returns-in-Err-clause-reads g c = λ t f.
     let inv = c.rows.invariant in
     let s = inv.told t f in
-    omega (arith, s.few, (rw (inv.same, inv.tuples) at c.in-Err.ensures.reads_err) t s.fits)
+    let fails = (rw (inv.same, inv.tuples) at c.in-Err.ensures.fails) t s.fits in
+    omega (arith, s.few, fails.ahead)
 
 pub rows-init : goal.rows-init
 rows-init g c = record {
