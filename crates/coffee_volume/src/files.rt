@@ -20,6 +20,7 @@ impl<F: Flash> Files for Volume<F> {
     ghost use Rattle.afl_base.specs.Regions.{regions};
     ghost use Rattle.afl_base.specs.Sparing.{SparesPages, StandsStill, WantsNothing};
     ghost use Rattle.coffee_merge.specs.Holding.{is_free_at};
+    ghost use Rattle.coffee_volume.specs.Choices.{AsksNothing, ProvidesPages};
     ghost use Rattle.coffee_volume.specs.Cuts.{MendsToFiles};
     ghost use Rattle.coffee_volume.specs.KeptTables.{kept_mend, seen_asks};
     ghost use Rattle.coffee_volume.specs.Lowest.{Looks, PlacesDraft, PlacesFile, Provides, Stops};
@@ -171,18 +172,11 @@ impl<F: Flash> Files for Volume<F> {
         ensures records { OnOk result
             (overwrites ≤ (file_at (⟦<Self as Files>⟧.state self.new).files id).records) }
         ensures room { OnOk result (bytes ≤ (file_at (⟦<Self as Files>⟧.state self.new).files id).room) }
-        ensures taken { UnlessFailed result (WhereTold ⟦<Self as Files>⟧.state self.old self.new
-            (TakesForFile (file_at (⟦<Self as Files>⟧.state self.old).files id).name)) }
-        ensures lowest { OnOk result (WhereTold ⟦<Self as Files>⟧.state self.old self.new
-            (Provides (file_at (⟦<Self as Files>⟧.state self.old).files id).name overwrites bytes)) }
-        ensures looked { OnSpace result (λ need. WhereTold ⟦<Self as Files>⟧.state self.old self.new
-            (Stops (file_at (⟦<Self as Files>⟧.state self.old).files id).name overwrites bytes need)) }
-        ensures still { let files = ⟦<Self as Files>⟧ in
+        ensures pages { let files = ⟦<Self as Files>⟧ in let file = file_at (files.state self.old).files id in
+            ProvidesPages files.state file.name overwrites bytes self.old self.new result }
+        ensures unasked { let files = ⟦<Self as Files>⟧ in
             WantsNothing (files.asks self.old id overwrites bytes)
-            → OnOk result (StandsStill files.state files.asks self.old self.new) }
-        ensures unchanged { WantsNothing (⟦<Self as Files>⟧.asks self.old id overwrites bytes)
-            → (⟦<Self as Files>⟧.state self.new).store ≡ (⟦<Self as Files>⟧.state self.old).store }
-        ensures unasked { WantsNothing (⟦<Self as Files>⟧.asks self.old id overwrites bytes) → OnSpace result (λ need. ⊥) }
+            → AsksNothing files.state files.asks self.old self.new result }
         ensures few { OnSpace result (AreFewFor (file_at (⟦<Self as Files>⟧.state self.old).files id)) }
         ensures asked { OnSpace result (λ need. ⟦<Self as Files>⟧.asks self.new id overwrites bytes need) }
         ensures cut { let files = ⟦<Self as Files>⟧ in

@@ -5,7 +5,7 @@ ghost use Rattle.afl_base.specs.FileErrors.{OnSpace, UnlessFailed, WhereFailed};
 ghost use Rattle.afl_base.specs.Files.{IsLive, KeepsBytes, file_at, size_at};
 ghost use Rattle.afl_base.specs.Fit.{fit};
 ghost use Rattle.afl_base.specs.Keeping.{ChangesOrLacks};
-ghost use Rattle.coffee_volume.specs.Choices.{ChoosesPages};
+ghost use Rattle.coffee_volume.specs.Choices.{ChoosesPages, StepsNowhere};
 ghost use Rattle.coffee_volume.specs.Lowest.{log_for};
 ghost use Rattle.coffee_volume.specs.Rooms.{pages_asked};
 ghost use Rattle.coffee_volume.specs.Steps.{IsAfter, MayTake, need_of, step_for};
@@ -37,10 +37,8 @@ impl<F: Flash> Volume<F> {
         ensures contents { UnlessFailed result (
             KeepsBytes (⟦<Self as Files>⟧.state self.old) (⟦<Self as Files>⟧.state self.new) id) }
         ensures shaped { OnOk result (AtEntry self.new.table id (λ e. step_for e overwrites bytes ≡ None)) }
-        ensures still { AtEntry self.old.table id (λ e. step_for e overwrites bytes ≡ None
-            → (F.image self.new.flash ≡ F.image self.old.flash) × (self.new.table ≡ self.old.table)) }
         ensures unasked { AtEntry self.old.table id (λ e. step_for e overwrites bytes ≡ None
-            → OnSpace result (λ _. ⊥)) }
+            → StepsNowhere (F.image self.old.flash) (F.image self.new.flash) self.old.table self.new.table result) }
         ensures asked { OnSpace result (λ need. ⟦<Self as Files>⟧.asks self.new id overwrites bytes need) }
         ensures few { OnSpace result (AreFewFor (file_at (⟦<Self as Files>⟧.state self.old).files id)) }
         ensures chooses { ChoosesPages ⟦<Self as Files>⟧.state (λ e. step_for e overwrites bytes) id
@@ -75,10 +73,8 @@ impl<F: Flash> Volume<F> {
         ensures kept { OnSpace result (λ _. self.new.table ≡ self.old.table) }
         ensures ready { OnOk result (AtEntry self.new.table id
             (λ e. pages_asked e overwrites bytes ≡ None)) }
-        ensures still { AtEntry self.old.table id (λ e. pages_asked e overwrites bytes ≡ None
-            → (F.image self.new.flash ≡ F.image self.old.flash) × (self.new.table ≡ self.old.table)) }
         ensures unasked { AtEntry self.old.table id (λ e. pages_asked e overwrites bytes ≡ None
-            → OnSpace result (λ _. ⊥)) }
+            → StepsNowhere (F.image self.old.flash) (F.image self.new.flash) self.old.table self.new.table result) }
         ensures asked { OnSpace result (λ need. ⟦<Self as Files>⟧.asks self.new id overwrites bytes need) }
         ensures need { OnSpace result (λ need. need ≡ 16) }
         ensures chooses { ChoosesPages ⟦<Self as Files>⟧.state (λ e. log_for e overwrites bytes) id

@@ -23,7 +23,6 @@ use Rattle.index_set.specs.declared.info.Access.{Access}
 use Rattle.index_set.specs.declared.info.Access.TheVariants.{Table as InTable}
 use Rattle.index_set.specs.declared.info.TableId.{TableId}
 use Rattle.index_set.specs.Inserts.{IsElsewhere}
-use Rattle.index_set.specs.Plans.{access_kind}
 use Rattle.index_set.specs.Tables.{Tables}
 use Rattle.space_model.specs.Enough.{keys_named, tree_size}
 use Rattle.space_model.specs.FileNames.{asks_in, catalog_file, rows_file, size_in}
@@ -160,7 +159,7 @@ module _ (s0 : State) (before : Tables) (held : Held) (opens : List (Option Open
 
   -- ---- it is made
 
-  module _ (s1 : State) (after : Tables) (access : Access) (made : IsMade s0 s1 before after held.indexes cat t site access) (of_kind : access_kind access ≡ kind) where
+  module _ (s1 : State) (after : Tables) (access : Access) (made : IsMade kind s0 s1 before after held.indexes cat t site access) where
     new_index : Indexed
     new_index = indexed_for site access
 
@@ -183,7 +182,7 @@ module _ (s0 : State) (before : Tables) (held : Held) (opens : List (Option Open
           idle = made.idle;
           slot = subst P (sym there) (record {
             place = is.below;
-            allowed = subst (λ (z : IndexKind). IsAllowedAt t.schema.attributes site.attribute z) (sym of_kind) is.allowed;
+            allowed = subst (λ (z : IndexKind). IsAllowedAt t.schema.attributes site.attribute z) (sym made.kind) is.allowed;
             held = made.held;
             file = made.file;
             complete = made.complete;
@@ -207,7 +206,7 @@ module _ (s0 : State) (before : Tables) (held : Held) (opens : List (Option Open
     unfolding unrefused after_it
     made_done told h =
         unrefused h
-        ∙ ap (λ (z : IndexKind). Ok (after_it (view s0.files held opens) z, Fine)) (sym of_kind)
+        ∙ ap (λ (z : IndexKind). Ok (after_it (view s0.files held opens) z, Fine)) (sym made.kind)
         ∙ ap (λ (db : Database). Ok (db, Fine)) (sym (index_view s0 s1 before after held opens site.slot (Some (indexed_for site access)) cat r site_changes told))
 
   -- ---- it wants no extent

@@ -9,7 +9,7 @@ use Rattle.afl_base.proofs.FileLaws.{named_live}
 use Rattle.afl_base.proofs.FrameLaws.{becomes_spares}
 use Rattle.catalog.specs.CatalogFile.{PutsIndex}
 use Rattle.db_model.specs.declared.schemas.IndexKind.{IndexKind}
-use Rattle.db_model.specs.declared.schemas.IndexKind.TheVariants.{Inline, MemHash}
+use Rattle.db_model.specs.declared.schemas.IndexKind.TheVariants.{Inline, MaxHeap, MemHash}
 use Rattle.db_model.specs.Row.{row_length, rows_of}
 use Rattle.db_model.specs.Step.{first_fall, keys}
 use Rattle.index_set.specs.declared.info.Access.TheVariants.{Order, Tree, Table as InTable}
@@ -57,10 +57,11 @@ module _ (old new : State) (cat : ℕ) (t : Tuples) (site : Site) (ready : IsRea
   }
 
 pub order_made : (old new : State) (tables : Tables) (xs : List (Option Indexed)) (cat : ℕ) (t : Tuples) (site : Site) → (ready : IsReadyFor old cat t site)
-    → (u : PutsIndex old new cat site.slot (Some (index_for site Inline))) → (IsTrue old.tells → first_fall (keys_at old t site) ≡ None) → IsMade old new tables tables xs cat t site Order
+    → (u : PutsIndex old new cat site.slot (Some (index_for site Inline))) → (IsTrue old.tells → first_fall (keys_at old t site) ≡ None) → IsMade Inline old new tables tables xs cat t site Order
 order_made old new tables xs cat t site ready u order =
     let l = put_leaves old new cat t site ready Inline u in
     record {
+      kind = refl;
       leaves = l;
       bytes = put_bytes old new cat t site ready Inline u;
       idle = u.draft ∙ ready.idle;
@@ -88,10 +89,11 @@ taken_kept before after n xs free others j y m there is = others m (other_table 
 
 pub table_made : (old new : State) (before after : Tables) (xs : List (Option Indexed)) (cat : ℕ) (t : Tuples) (site : Site) (n : TableId) → IsTable n → (ready : IsReadyFor old cat t site)
     → (u : PutsIndex old new cat site.slot (Some (index_for site MemHash))) → (IsTrue old.tells → entries after n ≡ keys_at old t site) → length (entries after n) ≡ slots old.files t
-    → KeepsTaken before after xs → IsNobodys n xs → IsMade old new before after xs cat t site (InTable n)
+    → KeepsTaken before after xs → IsNobodys n xs → IsMade MemHash old new before after xs cat t site (InTable n)
 table_made old new before after xs cat t site n there ready u filled size kept nobodys =
     let l = put_leaves old new cat t site ready MemHash u in
     record {
+      kind = refl;
       leaves = l;
       bytes = put_bytes old new cat t site ready MemHash u;
       idle = u.draft ∙ ready.idle;
@@ -103,8 +105,9 @@ table_made old new before after xs cat t site n there ready u filled size kept n
     }
 
 pub tree_made : (old new : State) (tables : Tables) (xs : List (Option Indexed)) (cat : ℕ) (t : Tuples) (site : Site) (file : ℕ) → IsReadyFor old cat t site
-    → PutsTree old new cat t site file → IsMade old new tables tables xs cat t site (Tree file)
+    → PutsTree old new cat t site file → IsMade MaxHeap old new tables tables xs cat t site (Tree file)
 tree_made old new tables xs cat t site file ready p = record {
+  kind = refl;
   leaves = p.leaves;
   bytes = p.bytes;
   idle = p.idle;
@@ -116,14 +119,14 @@ tree_made old new tables xs cat t site file ready p = record {
 }
 
 -- an index that is made whatever the tables are
-module _ (old new : State) (cat : ℕ) (t : Tuples) (site : Site) where
-  made_once : (tables : Tables) (xs : List (Option Indexed)) (s : Result Access Refusal) → IfOk s (λ access. (tables : Tables) (xs : List (Option Indexed)) → IsMade old new tables tables xs cat t site access)
-      → IfOk s (λ access. IsMade old new tables tables xs cat t site access)
-  made_once tables xs (Ok access) h = h tables xs
+module _ (old new : State) (cat : ℕ) (t : Tuples) (site : Site) (wanted kind : IndexKind) (is : wanted ≡ kind) where
+  made_once : (tables : Tables) (xs : List (Option Indexed)) (s : Result Access Refusal) → IfOk s (λ access. (tables : Tables) (xs : List (Option Indexed)) → IsMade kind old new tables tables xs cat t site access)
+      → IfOk s (λ access. IsMade wanted old new tables tables xs cat t site access)
+  made_once tables xs (Ok access) h = subst (λ (k : IndexKind). IsMade k old new tables tables xs cat t site access) (sym is) (h tables xs)
   made_once tables xs (Err refusal) h = tt
 
   pub made_for : (tables : Tables) (xs : List (Option Indexed)) (r : Result (Result Access Refusal) FileError)
-      → IfOk r (λ s. IfOk s (λ access. (tables : Tables) (xs : List (Option Indexed)) → IsMade old new tables tables xs cat t site access))
-      → IfOk r (λ s. IfOk s (λ access. IsMade old new tables tables xs cat t site access))
+      → IfOk r (λ s. IfOk s (λ access. (tables : Tables) (xs : List (Option Indexed)) → IsMade kind old new tables tables xs cat t site access))
+      → IfOk r (λ s. IfOk s (λ access. IsMade wanted old new tables tables xs cat t site access))
   made_for tables xs (Ok s) h = made_once tables xs s h
   made_for tables xs (Err e) h = tt

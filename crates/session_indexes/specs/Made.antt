@@ -63,8 +63,9 @@ KeepsTaken before after xs = (j : ℕ) (y : Indexed) (number : TableId) → get_
 abbrev pub IsNobodys : TableId → List (Option Indexed) → Type 0
 IsNobodys number xs = (j : ℕ) (y : Indexed) → get_or xs j None ≡ Some y → IsElsewhere (Table number) y.access
 
--- the index stands in its slot of the catalog, and is complete
-pub record IsMade (old new : State) (before after : Tables) (xs : List (Option Indexed)) (cat : ℕ) (t : Tuples) (site : Site) (access : Access) : Type 0 where
+-- the index is of the kind that is wanted, stands in its slot of the catalog, and is complete
+pub record IsMade (wanted : IndexKind) (old new : State) (before after : Tables) (xs : List (Option Indexed)) (cat : ℕ) (t : Tuples) (site : Site) (access : Access) : Type 0 where
+  pub kind : access_kind access ≡ wanted
   pub leaves : LeavesOthers old new (tree_file site.slot)
   pub bytes : HasBytes old new cat (bytes_for old cat site (access_kind access))
   pub idle : new.draft ≡ None

@@ -14,7 +14,7 @@ ghost use Rattle.session_model.specs.Steps.{Answers};
 ghost use Rattle.session_model.specs.View.{view};
 ghost use Rattle.session_model.specs.Wanted.{WantsFew};
 
-use crate::making::make_index;
+use crate::making::{NewIndex, make_index};
 use crate::relations::relation_named;
 use crate::sites::site_for;
 use crate::slots::hold;
@@ -25,6 +25,8 @@ use session_model::{Answer, Base, Held, Indexed, Open};
 
 /// Makes an index over all slots of a relation: a hash table is filled, a hash tree is built in a
 /// draft.
+// Not inlined, so that what builds a tree, 10 KB, is on the stack of no other command.
+#[inline(never)]
 pub fn create_index<V: Files>(
     base: &mut Base<V>,
     relation: &Ident,
@@ -47,22 +49,22 @@ pub fn create_index<V: Files>(
     let Some(cat) = cat else {
         return Ok(Answer::Refused(Refusal::NoRelation));
     };
+    let index = NewIndex { site: &site, kind };
     match make_index(
         &mut base.files,
         &mut base.tables,
         &base.held,
         cat,
         found.1,
-        &site,
-        kind,
+        &index,
     ) {
         Ok(Ok(access)) => {
-            let index = Indexed {
+            let indexed = Indexed {
                 relation: site.relation,
                 attribute: site.attribute,
                 access,
             };
-            hold(&mut base.held, site.slot, Some(index));
+            hold(&mut base.held, site.slot, Some(indexed));
             Ok(Answer::Fine)
         }
         Ok(Err(refusal)) => Ok(Answer::Refused(refusal)),

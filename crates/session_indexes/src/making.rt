@@ -10,7 +10,6 @@ ghost use Rattle.afl_base.specs.Files.{KeepsBytes};
 ghost use Rattle.afl_base.specs.Sparing.{SparesWhere};
 ghost use Rattle.db_model.specs.Step.{first_fall, keys};
 ghost use Rattle.db_model.specs.declared.schemas.IndexKind.TheVariants.{Inline, MaxHeap, MemHash};
-ghost use Rattle.index_set.specs.Plans.{access_kind};
 ghost use Rattle.index_set.specs.Tables.{Tables as AnyTables};
 ghost use Rattle.session_model.specs.Frames.{AsksNoExtent};
 ghost use Rattle.session_model.specs.Indexed.{IsAllowedAt};
@@ -31,6 +30,13 @@ use index_inline::ordered;
 use index_set::{Access, HashTables, MOST_KEYS};
 use session_model::{Held, Indexed};
 use tuple_file::Tuples;
+
+/// An index that is to be made: where it comes to stand, and its kind.
+#[derive(Clone, Copy)]
+pub struct NewIndex<'a> {
+    pub site: &'a Site,
+    pub kind: IndexKind,
+}
 
 // The key of an attribute before the first that falls.
 fn fall<V: Files>(files: &mut V, tuples: &Tuples, attribute: u8) -> Result<Option<i64>, Failed>
@@ -57,8 +63,7 @@ fn make_order<V: Files>(
     requires allowed { IsAllowedAt tuples.now.schema.attributes site.now.attribute Inline }
     ensures made { let old = V.state files.old in let new = V.state files.new in
         IfOk result (λ r. IfOk r (λ access. (tables : AnyTables) (xs : List (Option AnyIndexed))
-        → IsMade old new tables tables xs cat tuples.now site.now access)) }
-    ensures kind { IfOk result (λ r. IfOk r (λ access. access_kind access ≡ Inline)) }
+        → IsMade Inline old new tables tables xs cat tuples.now site.now access)) }
     ensures tried { let old = V.state files.old in let ks = keys_at old tuples.now site.now in
         IsTrue old.tells → IfOk result (λ r.
         (xs : List (Option AnyIndexed)) → IsTried Inline xs ks r) }
@@ -98,8 +103,7 @@ fn make_tree<V: Files>(
     requires allowed { IsAllowedAt tuples.now.schema.attributes site.now.attribute MaxHeap }
     ensures made { let old = V.state files.old in let new = V.state files.new in
         IfOk result (λ r. IfOk r (λ access. (tables : AnyTables) (xs : List (Option AnyIndexed))
-        → IsMade old new tables tables xs cat tuples.now site.now access)) }
-    ensures kind { IfOk result (λ r. IfOk r (λ access. access_kind access ≡ MaxHeap)) }
+        → IsMade MaxHeap old new tables tables xs cat tuples.now site.now access)) }
     ensures tried { let ks = keys_at (V.state files.old) tuples.now site.now in
         IfOk result (λ r. (xs : List (Option AnyIndexed)) → IsTried MaxHeap xs ks r) }
     ensures unrefused { let ks = keys_at (V.state files.old) tuples.now site.now in
@@ -135,8 +139,7 @@ fn make_table<V: Files>(
     requires tables { HaveTables indexes.now }
     ensures made { let old = V.state files.old in let new = V.state files.new in
         IfOk result (λ r. IfOk r (λ access.
-        IsMade old new tables.old tables.new indexes.now cat tuples.now site.now access)) }
-    ensures kind { IfOk result (λ r. IfOk r (λ access. access_kind access ≡ MemHash)) }
+        IsMade MemHash old new tables.old tables.new indexes.now cat tuples.now site.now access)) }
     ensures tried { let ks = keys_at (V.state files.old) tuples.now site.now in
         IfOk result (λ r. IsTried MemHash indexes.now ks r) }
     ensures unrefused { let ks = keys_at (V.state files.old) tuples.now site.now in
@@ -185,38 +188,36 @@ pub fn make_index<V: Files>(
     held: &Held,
     cat: FileId,
     tuples: &Tuples,
-    site: &Site,
-    kind: IndexKind,
+    index: &NewIndex,
 ) -> Result<Result<Access, Refusal>, FileError>
-    requires ready { IsReadyFor (V.state files.old) cat tuples.now site.now }
-    requires allowed { IsAllowedAt tuples.now.schema.attributes site.now.attribute kind }
+    requires ready { IsReadyFor (V.state files.old) cat tuples.now index.now.site.now }
+    requires allowed { IsAllowedAt tuples.now.schema.attributes index.now.site.now.attribute index.now.kind }
     requires apart { AreElsewhere held.now.indexes }
     requires tables { HaveTables held.now.indexes }
     ensures made { let old = V.state files.old in let new = V.state files.new in
         IfOk result (λ r. IfOk r (λ access.
-        IsMade old new tables.old tables.new held.now.indexes cat tuples.now site.now access)) }
-    ensures kind { IfOk result (λ r. IfOk r (λ access. access_kind access ≡ kind)) }
-    ensures tried { let old = V.state files.old in let ks = keys_at old tuples.now site.now in
-        IsTrue old.tells → IfOk result (λ r. IsTried kind held.now.indexes ks r) }
-    ensures unrefused { let old = V.state files.old in let ks = keys_at old tuples.now site.now in
-        IsTrue old.tells → OnSpace result (λ need. IsUnrefused kind held.now.indexes ks) }
+        IsMade index.now.kind old new tables.old tables.new held.now.indexes cat tuples.now index.now.site.now access)) }
+    ensures tried { let old = V.state files.old in let ks = keys_at old tuples.now index.now.site.now in
+        IsTrue old.tells → IfOk result (λ r. IsTried index.now.kind held.now.indexes ks r) }
+    ensures unrefused { let old = V.state files.old in let ks = keys_at old tuples.now index.now.site.now in
+        IsTrue old.tells → OnSpace result (λ need. IsUnrefused index.now.kind held.now.indexes ks) }
     ensures refused { IfOk result (λ r. OnErr r (V.state files.new ≡ V.state files.old)) }
     ensures tables { UnlessFailed result (KeepsTaken tables.old tables.new held.now.indexes) }
     ensures space { let old = V.state files.old in let new = V.state files.new in
         OnSpace result (λ need. KeepsBytes old new cat) }
-    ensures asked { let old = V.state files.old in let ks = keys_at old tuples.now site.now in
+    ensures asked { let old = V.state files.old in let ks = keys_at old tuples.now index.now.site.now in
         IsTrue old.tells → OnSpace result (λ need.
-        AsksIndex (V.asks files.new) (V.state files.new) cat site.now.slot kind ks need) }
+        AsksIndex (V.asks files.new) (V.state files.new) cat index.now.site.now.slot index.now.kind ks need) }
     ensures spares { let asks = AsksNoIndex (V.asks files.old) (V.state files.old) cat in
-        SparesWhere V.is_free (asks site.now.slot kind) (V.state files.old) (V.state files.new) result }
+        SparesWhere V.is_free (asks index.now.site.now.slot index.now.kind) (V.state files.old) (V.state files.new) result }
     ensures cut { let old = V.state files.old in
         CutKeepsOrLeaves V.cuts V.mends V.state files.old files.new (WhereFailed result)
-        (λ after. IsMadeInPart old after held.now.indexes cat tuples.now site.now kind) }
+        (λ after. IsMadeInPart old after held.now.indexes cat tuples.now index.now.site.now index.now.kind) }
     ensures frame { ChangesOrLacks V.state V.lent V.reads V.faults V.lacks files.old files.new result }
 {
-    match kind {
-        IndexKind::Inline => make_order(files, cat, tuples, site),
-        IndexKind::MaxHeap => make_tree(files, cat, tuples, site),
-        IndexKind::MemHash => make_table(files, tables, &held.indexes, cat, tuples, site),
+    match index.kind {
+        IndexKind::Inline => make_order(files, cat, tuples, index.site),
+        IndexKind::MaxHeap => make_tree(files, cat, tuples, index.site),
+        IndexKind::MemHash => make_table(files, tables, &held.indexes, cat, tuples, index.site),
     }
 }

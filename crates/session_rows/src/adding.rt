@@ -24,6 +24,13 @@ use db_model::{Tuple, row_length};
 use index_set::{HashTables, Indexes, Rooms, insert_all, prepare_all};
 use tuple_file::Tuples;
 
+// A row, and the room that was made for its keys.
+#[derive(Clone, Copy)]
+struct RoomedRow<'a> {
+    values: &'a Tuple,
+    rooms: &'a Rooms,
+}
+
 /// Puts a row after the others, and its keys into each index: room for all of it is made before
 /// any of it is written.
 pub(crate) fn add_row<V: Files>(
@@ -59,7 +66,11 @@ pub(crate) fn add_row<V: Files>(
     ensures frame { ChangesOrLacks V.state V.lent V.reads V.faults V.lacks files.old files.new result }
 {
     let rooms = prepare_row(files, tables, tuples, indexes, values, slot)?;
-    write_row(files, tables, tuples, indexes, &rooms, values, slot)?;
+    let row = RoomedRow {
+        values,
+        rooms: &rooms,
+    };
+    write_row(files, tables, tuples, indexes, &row, slot)?;
     Ok(())
 }
 
@@ -102,34 +113,33 @@ fn write_row<V: Files>(
     tables: &mut HashTables,
     tuples: &Tuples,
     indexes: &Indexes,
-    rooms: &Rooms,
-    values: &Tuple,
+    row: &RoomedRow,
     slot: SlotNo,
 ) -> Result<(), Failed>
     requires ready { TakesRow (V.state files.old) tables.old tuples.now indexes.now slot }
-    requires suits { AllSuit tuples.now.schema.attributes values.now }
-    requires keys { HaveKeys values.now indexes.now }
+    requires suits { AllSuit tuples.now.schema.attributes row.now.values.now }
+    requires keys { HaveKeys row.now.values.now indexes.now }
     requires open { AreOpenFor slot indexes.now }
     requires room { let file = file_at (V.state files.old).files tuples.now.file in
         row_length tuples.now.schema.attributes ≤ file.room }
-    requires rooms { HaveRoom (V.state files.old) rooms.now indexes.now }
+    requires rooms { HaveRoom (V.state files.old) row.now.rooms.now indexes.now }
     ensures added { OnOk result (AddsRow (V.state files.old) (V.state files.new)
-        tables.old tables.new tuples.now indexes.now values.now slot) }
+        tables.old tables.new tuples.now indexes.now row.now.values.now slot) }
     ensures complete { let all = rows (V.state files.old).files tuples.now in
         let now = rows (V.state files.new).files tuples.now in
         IsTrue (V.state files.old).tells → OnOk result
         (AreComplete (V.state files.old) tables.old all indexes.now
-        → AreRoomFor (V.state files.old) values.now rooms.now indexes.now
-        → MayAllFollow all values.now indexes.now
+        → AreRoomFor (V.state files.old) row.now.values.now row.now.rooms.now indexes.now
+        → MayAllFollow all row.now.values.now indexes.now
         → AreComplete (V.state files.new) tables.new now indexes.now) }
     ensures spares { SparesPages V.is_free V.state files.old files.new result }
     ensures cut { IsTrue V.cuts → IsTrue (V.state files.old).tells → OnErr result
-        (AreRoomFor (V.state files.old) values.now rooms.now indexes.now
+        (AreRoomFor (V.state files.old) row.now.values.now row.now.rooms.now indexes.now
         → MendsToState V.mends (V.state files.new).store
-        (λ after. MayAddRow (V.state files.old) after tables.old tuples.now indexes.now values.now)) }
+        (λ after. MayAddRow (V.state files.old) after tables.old tuples.now indexes.now row.now.values.now)) }
     ensures frame { Changes V.state V.lent V.reads V.faults files.old files.new result }
 {
-    tuples.append(files, values)?;
-    insert_all(files, tables, indexes, rooms, values, slot)?;
+    tuples.append(files, row.values)?;
+    insert_all(files, tables, indexes, row.rooms, row.values, slot)?;
     Ok(())
 }

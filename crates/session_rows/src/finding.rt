@@ -6,6 +6,13 @@ ghost use Rattle.std.specs.Prelude.{◌≡◌, ◌<◌, None, Some, IsSome, get_
 
 use tuple_file::Tuples;
 
+/// A relation that a command changes: its slot, and its rows.
+#[derive(Clone, Copy)]
+pub(crate) struct Target<'a> {
+    pub(crate) slot: u16,
+    pub(crate) tuples: &'a Tuples,
+}
+
 /// The relation in a slot that is used.
 pub(crate) fn relation_at(slots: &[Option<Tuples>], k: usize) -> &Tuples
     requires used { IsSome (get_or slots.now k None) }

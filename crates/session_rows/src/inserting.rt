@@ -2,27 +2,27 @@
 
 #![tactic(auto)]
 
-ghost use Rattle.std.specs.Prelude.{◌≡◌, ◌≤◌, ◌⊎◌, ℕ, IfOk, IsTrue, None, OnErr, OnOk, Some, get_or, map};
+ghost use Rattle.std.specs.Prelude.{◌≡◌, ◌≤◌, ◌⊎◌, ℕ, IfOk, IsTrue, None, OnErr, OnOk, Some, get_or};
 ghost use Rattle.afl_base.specs.CutFiles.{CutLeaves, MendsToState};
 ghost use Rattle.afl_base.specs.Keeping.{Changes};
 ghost use Rattle.afl_base.specs.Asked.{asks_few};
 ghost use Rattle.afl_base.specs.Sparing.{WantsNothing};
 ghost use Rattle.db_model.specs.declared.commands.Command.TheVariants as command;
-ghost use Rattle.db_model.specs.Database.{Database, indexes_of};
+ghost use Rattle.db_model.specs.Database.{Database};
 ghost use Rattle.db_model.specs.Step.{insert_into, slots_limit};
 ghost use Rattle.tuple_file.specs.Tuples.{slots};
 ghost use Rattle.session_model.specs.Answers.{Changed, OnNoSpace, OnNothing, SparesDone};
 ghost use Rattle.session_model.specs.Frames.{WantsRow};
-ghost use Rattle.session_model.specs.Indexed.{AreAllowed, index_of_info, infos_of};
+ghost use Rattle.session_model.specs.Indexed.{AreAllowed, infos_of};
 ghost use Rattle.session_model.specs.Carried.{Carries, Runs};
 ghost use Rattle.session_model.specs.Running.{IsRunning};
 ghost use Rattle.session_model.specs.View.{relation_of_rows, view};
 ghost use Rattle.session_rows.specs.Changes.{RelationGrows, RunsOn};
 ghost use Rattle.session_rows.specs.CutRows.{MayChange};
-ghost use Rattle.session_rows.specs.Ready.{TakesRow};
+ghost use Rattle.session_rows.specs.Ready.{IsDatabaseWith, TakesRow};
 
 use crate::adding::add_row;
-use crate::finding::relation_at;
+use crate::finding::{Target, relation_at};
 use crate::refusing::refused_row;
 use afl_base::{Failed, FileError, Files, SlotNo};
 use db_model::{Ident, Refusal, Tuple};
@@ -45,55 +45,57 @@ pub fn insert<V: Files>(
         return Ok(Answer::Refused(Refusal::NoRelation));
     };
     let tuples = relation_at(&held.relations, k);
+    let target = Target {
+        slot: k as u16,
+        tuples,
+    };
     let answer = insert_at(
         &mut base.files,
         &mut base.tables,
         held,
         &base.opens[..],
-        k as u16,
-        tuples,
+        &target,
         values,
     )?;
     Ok(answer)
 }
 
-// Puts a row after the others of the relation in a slot.
+// Puts a row after the others of a relation that is held.
 fn insert_at<V: Files>(
     files: &mut V,
     tables: &mut HashTables,
     held: &Held,
     opens: &[Option<Open>],
-    k: u16,
-    tuples: &Tuples,
+    target: &Target,
     values: &Tuple,
 ) -> Result<Answer, Failed>
     requires running { IsRunning (V.state files.old) tables.old held.now opens.now }
-    requires there { get_or held.now.relations k None ≡ Some tuples.now }
+    requires there { get_or held.now.relations target.now.slot None ≡ Some target.now.tuples.now }
     ensures changed { let old = (V.state files.old).files in let new = (V.state files.new).files in
         IsTrue (V.state files.old).tells → IfOk result (λ answer.
         Changed
-        (insert_into values.now k (view old held.now opens.now) (relation_of_rows old tuples.now))
-        (relation_of_rows old tuples.now) (relation_of_rows new tuples.now) answer) }
+        (insert_into values.now target.now.slot (view old held.now opens.now) (relation_of_rows old target.now.tuples.now))
+        (relation_of_rows old target.now.tuples.now) (relation_of_rows new target.now.tuples.now) answer) }
     ensures goes_on { OnOk result
-        (RunsOn (V.state files.old) (V.state files.new) tables.new held.now opens.now k) }
+        (RunsOn (V.state files.old) (V.state files.new) tables.new held.now opens.now target.now.slot) }
     ensures wants { let asks = asks_few (V.asks files.new) (V.state files.new).files in
-        let infos = infos_of k tuples.now held.now.indexes in
+        let infos = infos_of target.now.slot target.now.tuples.now held.now.indexes in
         IsTrue (V.state files.old).tells → OnNoSpace result (λ need.
-        WantsRow asks (V.state files.new) tuples.now infos values.now need) }
+        WantsRow asks (V.state files.new) target.now.tuples.now infos values.now need) }
     ensures lacks { OnNoSpace result (λ need. V.lacks files.new need) }
-    ensures spares { let wants = WantsRow (V.asks files.old) (V.state files.old) tuples.now in
-        SparesDone V.is_free (WantsNothing (wants (infos_of k tuples.now held.now.indexes) values.now))
+    ensures spares { let wants = WantsRow (V.asks files.old) (V.state files.old) target.now.tuples.now in
+        SparesDone V.is_free (WantsNothing (wants (infos_of target.now.slot target.now.tuples.now held.now.indexes) values.now))
         (V.state files.old) (V.state files.new) result }
-    ensures cut { let old = V.state files.old in let r = relation_of_rows old.files tuples.now in
-        let infos = infos_of k tuples.now held.now.indexes in
-        let made = insert_into values.now k (view old.files held.now opens.now) r in
+    ensures cut { let old = V.state files.old in let r = relation_of_rows old.files target.now.tuples.now in
+        let infos = infos_of target.now.slot target.now.tuples.now held.now.indexes in
+        let made = insert_into values.now target.now.slot (view old.files held.now opens.now) r in
         CutLeaves V.cuts V.mends V.state files.old files.new (OnErr result)
-        (λ after. MayChange old after tables.old tuples.now infos made) }
+        (λ after. MayChange old after tables.old target.now.tuples.now infos made) }
     ensures untouched { OnNothing result (V.state files.new ≡ V.state files.old) }
     ensures frame { Changes V.state V.lent V.reads V.faults files.old files.new result }
 {
-    let indexes = indexes_of(&held.indexes, k, tuples);
-    let answer = insert_row(files, tables, held.version, tuples, &indexes, values)?;
+    let indexes = indexes_of(&held.indexes, target.slot, target.tuples);
+    let answer = insert_row(files, tables, held.version, target.tuples, &indexes, values)?;
     Ok(answer)
 }
 
@@ -113,7 +115,7 @@ fn insert_row<V: Files>(
     requires allowed { AreAllowed tuples.now.schema.attributes indexes.now }
     ensures changed { let old = (V.state files.old).files in let new = (V.state files.new).files in
         IsTrue (V.state files.old).tells → IfOk result (λ answer. (k : ℕ) (db : Database)
-        → db.version ≡ version → indexes_of db k ≡ map (index_of_info k) indexes.now
+        → IsDatabaseWith version k indexes.now db
         → Changed (insert_into values.now k db (relation_of_rows old tuples.now))
         (relation_of_rows old tuples.now) (relation_of_rows new tuples.now) answer) }
     ensures grows { OnOk result (RelationGrows (V.state files.old) (V.state files.new)
@@ -127,8 +129,7 @@ fn insert_row<V: Files>(
         SparesDone V.is_free (WantsNothing (wants indexes.now values.now)) (V.state files.old) (V.state files.new) result }
     ensures cut { let old = V.state files.old in let r = relation_of_rows old.files tuples.now in
         IsTrue V.cuts → IsTrue old.tells → OnErr result ((k : ℕ) (db : Database)
-        → db.version ≡ version → indexes_of db k ≡ map (index_of_info k) indexes.now
-        → MendsToState V.mends (V.state files.new).store
+        → IsDatabaseWith version k indexes.now db → MendsToState V.mends (V.state files.new).store
         (λ after. MayChange old after tables.old tuples.now indexes.now (insert_into values.now k db r))) }
     ensures untouched { OnNothing result (V.state files.new ≡ V.state files.old) }
     ensures frame { Changes V.state V.lent V.reads V.faults files.old files.new result }

@@ -21,11 +21,11 @@ ghost use Rattle.session_rows.specs.Removals.{IsRemoval};
 ghost use Rattle.session_rows.specs.Wanted.{OfCode, WantsRemovalBy};
 ghost use Rattle.session_rows.specs.Ready.{MaySelect};
 
-use crate::finding::relation_at;
+use crate::finding::{Target, relation_at};
 use crate::marking::remove_selected;
 use crate::selecting::select_slots;
 use afl_base::{Failed, FileError, Files};
-use cursor::SelectCursor;
+use cursor::{SelectCursor, none_begun};
 use db_model::{Condition, Ident, Refusal};
 use index_set::{HashTables, Indexes};
 use lvm::Code;
@@ -35,6 +35,8 @@ use tuple_file::Tuples;
 /// Removes the live rows that satisfy a condition: up to 29 are marked one by one, and more are
 /// written anew in one draft. What a cut leaves mends to a database in which all of them are removed
 /// or none, or, of up to 29, those in the first slots.
+// Not inlined, so that its cursor is on the stack of no other command.
+#[inline(never)]
 pub fn remove_from<V: Files>(
     base: &mut Base<V>,
     relation: &Ident,
@@ -50,61 +52,63 @@ pub fn remove_from<V: Files>(
         return Ok(Answer::Refused(Refusal::NoRelation));
     };
     let tuples = relation_at(&held.relations, k);
+    let target = Target {
+        slot: k as u16,
+        tuples,
+    };
     let answer = remove_at(
         &mut base.files,
         &base.tables,
         held,
         &base.opens[..],
-        k as u16,
-        tuples,
+        &target,
         condition,
     )?;
     Ok(answer)
 }
 
-// Removes the rows of the relation in a slot that satisfy a condition.
+// Removes the rows of a relation that satisfy a condition.
 fn remove_at<V: Files>(
     files: &mut V,
     tables: &HashTables,
     held: &Held,
     opens: &[Option<Open>],
-    k: u16,
-    tuples: &Tuples,
+    target: &Target,
     condition: &Condition,
 ) -> Result<Answer, Failed>
     requires running { IsRunning (V.state files.old) tables.now held.now opens.now }
-    requires there { get_or held.now.relations k None ≡ Some tuples.now }
+    requires there { get_or held.now.relations target.now.slot None ≡ Some target.now.tuples.now }
     requires condition { IsCondition condition.now }
     ensures changed { let old = (V.state files.old).files in let new = (V.state files.new).files in
-        let made = remove_in (condition_of condition.now) k in
+        let made = remove_in (condition_of condition.now) target.now.slot in
         IsTrue (V.state files.old).tells → IfOk result (λ answer.
-        Changed (made (view old held.now opens.now) (relation_of_rows old tuples.now))
-        (relation_of_rows old tuples.now) (relation_of_rows new tuples.now) answer) }
+        Changed (made (view old held.now opens.now) (relation_of_rows old target.now.tuples.now))
+        (relation_of_rows old target.now.tuples.now) (relation_of_rows new target.now.tuples.now) answer) }
     ensures goes_on { OnOk result
-        (RunsOn (V.state files.old) (V.state files.new) tables.now held.now opens.now k) }
+        (RunsOn (V.state files.old) (V.state files.new) tables.now held.now opens.now target.now.slot) }
     ensures wants { let asks = asks_few (V.asks files.new) (V.state files.new).files in
         IsTrue (V.state files.old).tells → OnNoSpace result
-        (WantsRemovalBy asks (V.state files.new) tuples.now (condition_of condition.now)) }
+        (WantsRemovalBy asks (V.state files.new) target.now.tuples.now (condition_of condition.now)) }
     ensures lacks { OnNoSpace result (λ need. V.lacks files.new need) }
     ensures accepted { let old = (V.state files.old).files in
-        let made = remove_in (condition_of condition.now) k in
-        OnErr result (IsOk (made (view old held.now opens.now) (relation_of_rows old tuples.now))) }
-    ensures spares { let wants = WantsRemovalBy (V.asks files.old) (V.state files.old) tuples.now in
+        let made = remove_in (condition_of condition.now) target.now.slot in
+        OnErr result (IsOk (made (view old held.now opens.now) (relation_of_rows old target.now.tuples.now))) }
+    ensures spares { let wants = WantsRemovalBy (V.asks files.old) (V.state files.old) target.now.tuples.now in
         SparesDone V.is_free (WantsNothing (wants (condition_of condition.now))) (V.state files.old) (V.state files.new) result }
     ensures cut { CutLeaves V.cuts V.mends V.state files.old files.new (OnErr result)
-        (λ after. MayRemove (V.state files.old) after tuples.now (condition_of condition.now)) }
+        (λ after. MayRemove (V.state files.old) after target.now.tuples.now (condition_of condition.now)) }
     ensures untouched { OnNothing result (V.state files.new ≡ V.state files.old) }
     ensures frame { Changes V.state V.lent V.reads V.faults files.old files.new result }
 {
-    let code = match Code::compile(condition, &tuples.schema, 0) {
+    let code = match Code::compile(condition, &target.tuples.schema, 0) {
         Ok(code) => code,
         Err(refusal) => return Ok(Answer::Refused(refusal)),
     };
-    if let Some(cursor) = least_reader(opens, &tuples.schema.name) {
+    if let Some(cursor) = least_reader(opens, &target.tuples.schema.name) {
         return Ok(Answer::Refused(Refusal::InUse { cursor }));
     }
-    let indexes = indexes_of(&held.indexes, k, tuples);
-    let answer = remove_rows(files, tables, tuples, &indexes, code)?;
+    let indexes = indexes_of(&held.indexes, target.slot, target.tuples);
+    let answer = remove_rows(files, tables, target.tuples, &indexes, code)?;
     Ok(answer)
 }
 
@@ -141,7 +145,12 @@ fn remove_rows<V: Files>(
     ensures untouched { OnNothing result (V.state files.new ≡ V.state files.old) }
     ensures frame { Changes V.state V.lent V.reads V.faults files.old files.new result }
 {
-    let mut cursor = SelectCursor::begin(files, tables, tuples.copy(), indexes, code)?;
+    let mut cursor = SelectCursor {
+        tuples: tuples.copy(),
+        code,
+        candidates: none_begun(),
+    };
+    cursor.begin(files, tables, indexes)?;
     let selected = select_slots(files, tables, &mut cursor)?;
     match remove_selected(files, tuples, &cursor.code, &selected) {
         Ok(()) => Ok(Answer::Removed(selected.count)),

@@ -138,8 +138,8 @@ spared_by a b i below c s = others_spared a b i c.spares below c.there s
 
 -- ---- the index is taken back where its tree is gone
 
-pub taken_settles : (a b d : State) (i : ℕ) → SparesButTree a b (tree_file i) → IsSoundButTrees a.files → SparesButOne b d catalog_file → LosesIndex b.files d.files i → first_broken d.files ≡ None → SettlesIndex a.files d.files i
-taken_settles a b d i c s o t sound =
+pub taken_settles : (a b d : State) (i : ℕ) → SparesButTree a b (tree_file i) → IsSoundButTrees a.files → SparesButOne b d catalog_file → LosesIndex b.files d.files i → SettlesIndex a.files d.files i
+taken_settles a b d i c s o t =
     let new : Table = d.files in
     let from_b : HaveSameRows b.files new = record { version = t.version; relations = t.relations; rows = λ k. ap bytes_in_file (o.files (rows_file k) (λ e. catalog_no_rows k (sym e))) } in
     let rows : HaveSameRows a.files new = same_rows_then a.files b.files new (same_rows a b i c) from_b in
@@ -150,7 +150,7 @@ taken_settles a b d i c s o t sound =
     record {
       spares = record {
         sound = record {
-          catalog = sound;
+          catalog = t.sound;
           rows = λ slot less. rows_keep a.files new rows slot (s.rows slot less);
           treeless = λ slot index is kind. ⊎_elim
               (λ (same : slot ≡ i). absurd (none_some index (sym (subst (λ (j : ℕ). get_or (catalog_in new).indexes j None ≡ None) (sym same) t.gone) ∙ is)))
@@ -195,13 +195,12 @@ complete_next a b catalog i c s = record {
 -- ---- a slot
 
 -- a tree that was lost, and then its index is taken back
-pub lost_settles : (a b d : State) (catalog : Catalog) (i : ℕ) → LosesTree a b catalog i → SparesButOne b d catalog_file → (IsTrue b.tells → LacksTree b.files i → LosesIndex b.files d.files i)
-    → (IsTrue b.tells → LacksTree b.files i → first_broken d.files ≡ None) → SettlesSlot a d catalog i
-lost_settles a b d catalog i t others loses sound = record {
+pub lost_settles : (a b d : State) (catalog : Catalog) (i : ℕ) → LosesTree a b catalog i → SparesButOne b d catalog_file → (IsTrue b.tells → LacksTree b.files i → LosesIndex b.files d.files i) → SettlesSlot a d catalog i
+lost_settles a b d catalog i t others loses = record {
   settles = λ told h s.
       let there = t.spares.spares.tells ∙ told in
       let lacks = t.lacks told h s in
-      taken_settles a b d i t.spares s others (loses there lacks) (sound there lacks);
+      taken_settles a b d i t.spares s others (loses there lacks);
 }
 
 -- a slot that waited and is settled then

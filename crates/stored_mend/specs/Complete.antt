@@ -40,8 +40,9 @@ pub record HasCompleteIndexes (files : Table) (catalog : Catalog) (slot : ℕ) :
   pub first : (j : ℕ) → j < slot → HasCompleteIndex files j
   pub rest : (j : ℕ) → slot ≤ j → HasSlot files catalog j
 
--- the index of a slot is gone from the catalog, whose version and other slots are as before
+-- the index of a slot is gone from the catalog, which is sound, and whose version and other slots are as before
 pub record LosesIndex (old new : Table) (slot : ℕ) : Type 0 where
+  pub sound : first_broken new ≡ None
   pub version : (catalog_in new).version ≡ (catalog_in old).version
   pub relations : (catalog_in new).relations ≡ (catalog_in old).relations
   pub gone : get_or (catalog_in new).indexes slot None ≡ None

@@ -1,6 +1,7 @@
 -- What a step of mending keeps.
 use Rattle.std.specs.Prelude.{◌≡◌, ⊤, ℕ, ◌≤◌, IsTrue, Option}
-use Rattle.afl_base.specs.Files.{IsNamed, State, Table, size_at}
+use Rattle.afl_base.specs.Files.{IsLive, IsNamed, State, Table, file_at, size_at}
+use Rattle.afl_base.specs.declared.kind.Kind.TheVariants.{Fixed}
 use Rattle.catalog.specs.Rules.{catalog_bytes_in}
 use Rattle.db_model.specs.declared.schemas.Schema.{Schema}
 use Rattle.db_model.specs.Catalog.{relation_at}
@@ -53,6 +54,13 @@ pub record IsWholeCatalog (files : Table) (cat : ℕ) : Type 0 where
   pub named : IsNamed files cat catalog_file
   pub only : (k : ℕ) → IsNamed files k catalog_file → k ≡ cat
   pub long : 1472 ≤ size_at files cat
+
+-- its file, whose bytes may be put: it is of the catalog's kind, and behind the slots stands at most the mark of version 2
+pub record IsWrittenCatalog (files : Table) (cat : ℕ) : Type 0 where
+  pub whole : IsWholeCatalog files cat
+  pub live : IsLive files cat
+  pub most : size_at files cat ≤ 1480
+  pub kind : (file_at files cat).kind ≡ Fixed 6
 
 -- what the slot of a relation is read as, where bytes are told
 abbrev pub HasInSlot : State → ℕ → Option Schema → Type 0

@@ -1,8 +1,8 @@
 -- The files of a database while they are repaired, stage by stage.
 use Rattle.std.specs.Prelude.{◌≡◌, ℕ, false, get_or, Some, None}
 use Rattle.afl_base.specs.Files.{Table}
-use Rattle.catalog.specs.Rules.{first_broken, is_stranger}
-use Rattle.db_model.specs.Catalog.{Index}
+use Rattle.catalog.specs.Rules.{catalog_in, first_broken, is_stranger}
+use Rattle.db_model.specs.Catalog.{Catalog, Index}
 use Rattle.db_model.specs.Step.{keys}
 use Rattle.db_model.specs.declared.schemas.Schema.{Schema}
 use Rattle.space_model.specs.Enough.{rows_in}
@@ -21,7 +21,12 @@ pub record IsCatalogSound (files : Table) (half : Half) : Type 0 where
   pub keys : (i : ℕ) (index : Index) → get_or (mended_catalog files).indexes i None ≡ Some index
       → IsIndexWhile half index (bytes_named (tree_file i) files) (keys index.attribute (rows_in (mended_base files) index.relation))
 
--- the same, with whole rows in every relation
+-- so it is with files whose catalog was read
+pub record IsReadSound (read : Catalog) (files : Table) (half : Half) : Type 0 where
+  pub same : read ≡ catalog_in files
+  pub stage : IsCatalogSound files half
+
+-- the catalog and the files keep these rules, and every relation has whole rows in every relation
 pub record HasWholeRelations (files : Table) (half : Half) : Type 0 where
   pub stage : IsCatalogSound files half
   pub rows : (k : ℕ) (schema : Schema) → relation files k ≡ Some schema

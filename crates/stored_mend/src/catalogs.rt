@@ -3,12 +3,11 @@
 #![tactic(auto)]
 
 ghost use Rattle.std.specs.Prelude.{◌≡◌, ◌≢◌, ◌≤◌, ◌<◌, ◌+◌, ◌-◌, ℕ, List, IfNone, IfSome, IsTrue, None, OnOk, Some, length, slice_get, slice_index};
-ghost use Rattle.afl_base.specs.Files.{IsLive, KeepsBytes, Overwrites, file_at, size_at};
+ghost use Rattle.afl_base.specs.Files.{IsLive, KeepsBytes, Overwrites, size_at};
 ghost use Rattle.afl_base.specs.CutFiles.{CutLeaves, OverwritesFront};
 ghost use Rattle.afl_base.specs.FileErrors.{OnSpace, WhereFailed};
 ghost use Rattle.afl_base.specs.Keeping.{ChangesOrLacks, OnlyReads};
 ghost use Rattle.afl_base.specs.declared.kind.Kind.TheVariants.{Fixed};
-ghost use Rattle.catalog.specs.Rules.{first_broken};
 ghost use Rattle.db_model.specs.declared.schemas.Attribute.{Attribute};
 ghost use Rattle.db_model.specs.Catalog.{Index, relation_slot_bytes};
 ghost use Rattle.space_model.specs.FileNames.{catalog_file, rows_file};
@@ -18,7 +17,7 @@ ghost use Rattle.stored.specs.declared.half.Half.{Half};
 ghost use Rattle.stored_mend.specs.Complete.{LosesIndex};
 ghost use Rattle.stored_mend.specs.Interrupted.{CutMends, IsCutState};
 ghost use Rattle.stored_mend.specs.Listed.{HasWrittenCatalog, IsListedTo, IsMarkedHalf, IsMarkedSlot, IsTakenBack, KeepsKnown, LacksTree, indexes_below, relations_below};
-ghost use Rattle.stored_mend.specs.Mending.{HasInSlot, IsStrangeSlot, IsWholeCatalog, MendsAsBefore, WantsMark};
+ghost use Rattle.stored_mend.specs.Mending.{HasInSlot, IsStrangeSlot, IsWholeCatalog, IsWrittenCatalog, MendsAsBefore, WantsMark};
 ghost use Rattle.stored_mend.specs.Reported.{HasNames, IsOn, Reports, SparesSlots, bytes_by_name, with_line};
 ghost use Rattle.stored_mend.specs.declared.report.Mended.TheVariants.{Index as IndexLine, Relation as RelationLine};
 ghost use Rattle.stored_mend.specs.Trees.{SparesButOne};
@@ -68,11 +67,7 @@ pub fn take_back_catalog<V: Files>(files: &mut V, report: &mut Report) -> Result
 
 // The file of the catalog, where it has a catalog's kind and size. Each file has one of 32 places.
 fn written_catalog<V: Files>(files: &V) -> Option<FileId>
-    ensures live { IfSome result (λ cat. IsLive (V.state files.now).files cat) }
-    ensures least { IfSome result (λ cat. 1472 ≤ size_at (V.state files.now).files cat) }
-    ensures most { IfSome result (λ cat. size_at (V.state files.now).files cat ≤ 1480) }
-    ensures kind { IfSome result (λ cat. (file_at (V.state files.now).files cat).kind ≡ Fixed 6) }
-    ensures found { IfSome result (λ cat. IsWholeCatalog (V.state files.now).files cat) }
+    ensures found { IfSome result (λ cat. IsWrittenCatalog (V.state files.now).files cat) }
     ensures none { IfNone result (HasWrittenCatalog (V.state files.now).files → ⊥) }
 {
     let cat = whole_catalog(files)?;
@@ -118,30 +113,24 @@ pub fn complete_mark<V: Files>(files: &mut V, report: &mut Report) -> Result<(),
 // Appends what is missing of the mark.
 fn write_mark<V: Files>(files: &mut V, cat: FileId, report: &mut Report) -> Result<(), FileError>
     requires idle { (V.state files.old).draft ≡ None }
-    requires live { IsLive (V.state files.old).files cat }
-    requires least { 1472 ≤ size_at (V.state files.old).files cat }
-    requires most { size_at (V.state files.old).files cat ≤ 1480 }
-    requires kind { (file_at (V.state files.old).files cat).kind ≡ Fixed 6 }
+    requires catalog { IsWrittenCatalog (V.state files.old).files cat }
     ensures idle { OnOk result ((V.state files.new).draft ≡ None) }
-    ensures kept { IsWholeCatalog (V.state files.old).files cat → WantsMark (V.state files.old)
+    ensures kept { WantsMark (V.state files.old)
         → OnOk result (MendsAsBefore (V.state files.old) (V.state files.new)) }
-    ensures known { IsWholeCatalog (V.state files.old).files cat
-        → OnOk result (KeepsKnown (V.state files.old).files (V.state files.new).files) }
-    ensures marked { IsTrue (V.state files.old).tells → IsWholeCatalog (V.state files.old).files cat
-        → WantsMark (V.state files.old) → (half : Half) → IsHalfDone (V.state files.old).files half
+    ensures known { OnOk result (KeepsKnown (V.state files.old).files (V.state files.new).files) }
+    ensures marked { IsTrue (V.state files.old).tells → WantsMark (V.state files.old)
+        → (half : Half) → IsHalfDone (V.state files.old).files half
         → OnOk result (IsMarkedHalf (V.state files.new).files half) }
-    ensures cut { IsTrue (V.state files.old).tells
-        → IsWholeCatalog (V.state files.old).files cat → WantsMark (V.state files.old)
+    ensures cut { IsTrue (V.state files.old).tells → WantsMark (V.state files.old)
         → IsCutTable (V.state files.old).files
         → CutMends V.cuts V.mends V.state files.new (WhereFailed result)
         (λ db. db ≡ mended_base (V.state files.old).files) }
-    ensures space { IsTrue (V.state files.old).tells
-        → IsWholeCatalog (V.state files.old).files cat → WantsMark (V.state files.old)
+    ensures space { IsTrue (V.state files.old).tells → WantsMark (V.state files.old)
         → IsCutTable (V.state files.old).files
         → OnSpace result (λ _. IsCutState (V.state files.new)
         (λ db. db ≡ mended_base (V.state files.old).files)) }
     ensures frame { ChangesOrLacks V.state V.lent V.reads V.faults V.lacks files.old files.new result }
-    ensures reported { IsTrue (V.state files.old).tells → IsWholeCatalog (V.state files.old).files cat
+    ensures reported { IsTrue (V.state files.old).tells
         → OnOk result (Reports 1 (V.state files.old) (V.state files.new) report.old.mended report.new.mended) }
 {
     let written = (files.size(cat) - SIZE_OF_VERSION_1) as usize;
@@ -204,34 +193,24 @@ fn empty_slot<V: Files>(
     report: &mut Report,
 ) -> Result<(), FileError>
     requires idle { (V.state files.old).draft ≡ None }
-    requires live { IsLive (V.state files.old).files cat }
-    requires least { 1472 ≤ size_at (V.state files.old).files cat }
-    requires most { size_at (V.state files.old).files cat ≤ 1480 }
-    requires kind { (file_at (V.state files.old).files cat).kind ≡ Fixed 6 }
+    requires catalog { IsWrittenCatalog (V.state files.old).files cat }
     requires slot { slot < 8 }
     ensures idle { OnOk result ((V.state files.new).draft ≡ None) }
-    ensures kept { IsWholeCatalog (V.state files.old).files cat
-        → HasInSlot (V.state files.old) slot None
+    ensures kept { HasInSlot (V.state files.old) slot None
         → OnOk result (MendsAsBefore (V.state files.old) (V.state files.new)) }
-    ensures listed { IsTrue (V.state files.old).tells → IsWholeCatalog (V.state files.old).files cat
-        → HasInSlot (V.state files.old) slot None
+    ensures listed { IsTrue (V.state files.old).tells → HasInSlot (V.state files.old) slot None
         → IsListedTo (relations_below slot) (V.state files.old).files
         → OnOk result (IsListedTo (relations_below (slot + 1)) (V.state files.new).files) }
-    ensures cut { IsTrue (V.state files.old).tells
-        → IsWholeCatalog (V.state files.old).files cat
-        → HasInSlot (V.state files.old) slot None
+    ensures cut { IsTrue (V.state files.old).tells → HasInSlot (V.state files.old) slot None
         → IsListedTo (relations_below slot) (V.state files.old).files
         → CutMends V.cuts V.mends V.state files.new (WhereFailed result)
         (λ db. db ≡ mended_base (V.state files.old).files) }
-    ensures space { IsTrue (V.state files.old).tells
-        → IsWholeCatalog (V.state files.old).files cat
-        → HasInSlot (V.state files.old) slot None
+    ensures space { IsTrue (V.state files.old).tells → HasInSlot (V.state files.old) slot None
         → IsListedTo (relations_below slot) (V.state files.old).files
         → OnSpace result (λ _. IsCutState (V.state files.new)
         (λ db. db ≡ mended_base (V.state files.old).files)) }
     ensures frame { ChangesOrLacks V.state V.lent V.reads V.faults V.lacks files.old files.new result }
-    ensures reported { IsTrue (V.state files.old).tells → IsWholeCatalog (V.state files.old).files cat
-        → HasInSlot (V.state files.old) slot None
+    ensures reported { IsTrue (V.state files.old).tells → HasInSlot (V.state files.old) slot None
         → OnOk result (Reports 1 (V.state files.old) (V.state files.new) report.old.mended report.new.mended) }
 {
     let mut bytes = [0; 176];
@@ -280,33 +259,27 @@ fn mend_schema<V: Files>(
     report: &mut Report,
 ) -> Result<(), FileError>
     requires idle { (V.state files.old).draft ≡ None }
-    requires live { IsLive (V.state files.old).files cat }
-    requires least { 1472 ≤ size_at (V.state files.old).files cat }
-    requires most { size_at (V.state files.old).files cat ≤ 1480 }
-    requires kind { (file_at (V.state files.old).files cat).kind ≡ Fixed 6 }
+    requires catalog { IsWrittenCatalog (V.state files.old).files cat }
     requires slot { slot < 8 }
     ensures idle { OnOk result ((V.state files.new).draft ≡ None) }
-    ensures kept { IsWholeCatalog (V.state files.old).files cat
-        → HasInSlot (V.state files.old) slot (Some schema.now)
+    ensures kept { HasInSlot (V.state files.old) slot (Some schema.now)
         → OnOk result (MendsAsBefore (V.state files.old) (V.state files.new)) }
-    ensures listed { IsTrue (V.state files.old).tells → IsWholeCatalog (V.state files.old).files cat
+    ensures listed { IsTrue (V.state files.old).tells
         → HasInSlot (V.state files.old) slot (Some schema.now)
         → IsListedTo (relations_below slot) (V.state files.old).files
         → OnOk result (IsListedTo (relations_below (slot + 1)) (V.state files.new).files) }
     ensures cut { IsTrue (V.state files.old).tells
-        → IsWholeCatalog (V.state files.old).files cat
         → HasInSlot (V.state files.old) slot (Some schema.now)
         → IsListedTo (relations_below slot) (V.state files.old).files
         → CutMends V.cuts V.mends V.state files.new (WhereFailed result)
         (λ db. db ≡ mended_base (V.state files.old).files) }
     ensures space { IsTrue (V.state files.old).tells
-        → IsWholeCatalog (V.state files.old).files cat
         → HasInSlot (V.state files.old) slot (Some schema.now)
         → IsListedTo (relations_below slot) (V.state files.old).files
         → OnSpace result (λ _. IsCutState (V.state files.new)
         (λ db. db ≡ mended_base (V.state files.old).files)) }
     ensures frame { ChangesOrLacks V.state V.lent V.reads V.faults V.lacks files.old files.new result }
-    ensures reported { IsTrue (V.state files.old).tells → IsWholeCatalog (V.state files.old).files cat
+    ensures reported { IsTrue (V.state files.old).tells
         → HasInSlot (V.state files.old) slot (Some schema.now)
         → OnOk result (Reports 2 (V.state files.old) (V.state files.new) report.old.mended report.new.mended) }
 {
@@ -322,32 +295,26 @@ fn mark_time<V: Files>(
     report: &mut Report,
 ) -> Result<(), FileError>
     requires idle { (V.state files.old).draft ≡ None }
-    requires live { IsLive (V.state files.old).files cat }
-    requires least { 1472 ≤ size_at (V.state files.old).files cat }
-    requires most { size_at (V.state files.old).files cat ≤ 1480 }
-    requires kind { (file_at (V.state files.old).files cat).kind ≡ Fixed 6 }
+    requires catalog { IsWrittenCatalog (V.state files.old).files cat }
     ensures idle { OnOk result ((V.state files.new).draft ≡ None) }
-    ensures kept { IsWholeCatalog (V.state files.old).files cat
-        → (IsTrue (has_time (Some schema.now)) → WantsMark (V.state files.old))
+    ensures kept { (IsTrue (has_time (Some schema.now)) → WantsMark (V.state files.old))
         → OnOk result (MendsAsBefore (V.state files.old) (V.state files.new)) }
-    ensures marked { IsTrue (V.state files.old).tells → IsWholeCatalog (V.state files.old).files cat
+    ensures marked { IsTrue (V.state files.old).tells
         → (slot : ℕ) → slot < 8 → HasInSlot (V.state files.old) slot (Some schema.now)
         → IsListedTo (relations_below slot) (V.state files.old).files
         → OnOk result (IsMarkedSlot slot (V.state files.new).files) }
     ensures cut { IsTrue (V.state files.old).tells
-        → IsWholeCatalog (V.state files.old).files cat
         → (IsTrue (has_time (Some schema.now)) → WantsMark (V.state files.old))
         → IsCutTable (V.state files.old).files
         → CutMends V.cuts V.mends V.state files.new (WhereFailed result)
         (λ db. db ≡ mended_base (V.state files.old).files) }
     ensures space { IsTrue (V.state files.old).tells
-        → IsWholeCatalog (V.state files.old).files cat
         → (IsTrue (has_time (Some schema.now)) → WantsMark (V.state files.old))
         → IsCutTable (V.state files.old).files
         → OnSpace result (λ _. IsCutState (V.state files.new)
         (λ db. db ≡ mended_base (V.state files.old).files)) }
     ensures frame { ChangesOrLacks V.state V.lent V.reads V.faults V.lacks files.old files.new result }
-    ensures reported { IsTrue (V.state files.old).tells → IsWholeCatalog (V.state files.old).files cat
+    ensures reported { IsTrue (V.state files.old).tells
         → OnOk result (Reports 1 (V.state files.old) (V.state files.new) report.old.mended report.new.mended) }
 {
     if files.size(cat) != SIZE_OF_VERSION_1 {
@@ -427,8 +394,6 @@ pub fn mend_index<V: Files>(files: &mut V, slot: u16, report: &mut Report) -> Re
     ensures idle { OnOk result ((V.state files.new).draft ≡ None) }
     ensures kept { OnOk result (MendsAsBefore (V.state files.old) (V.state files.new)) }
     ensures others { OnOk result (SparesButOne (V.state files.old) (V.state files.new) catalog_file) }
-    ensures sound { IsTrue (V.state files.old).tells → LacksTree (V.state files.old).files slot
-        → OnOk result (first_broken (V.state files.new).files ≡ None) }
     ensures listed { IsTrue (V.state files.old).tells
         → IsListedTo (indexes_below slot) (V.state files.old).files
         → OnOk result (IsListedTo (indexes_below (slot + 1)) (V.state files.new).files) }
@@ -514,10 +479,7 @@ fn report_index_of(schema: &Schema, attribute: u8, report: &mut Report)
 // Makes room, and puts these bytes into a slot.
 fn overwrite<V: Files>(files: &mut V, cat: FileId, at: u32, bytes: &[u8]) -> Result<(), FileError>
     requires idle { (V.state files.old).draft ≡ None }
-    requires live { IsLive (V.state files.old).files cat }
-    requires least { 1472 ≤ size_at (V.state files.old).files cat }
-    requires most { size_at (V.state files.old).files cat ≤ 1480 }
-    requires kind { (file_at (V.state files.old).files cat).kind ≡ Fixed 6 }
+    requires catalog { IsWrittenCatalog (V.state files.old).files cat }
     requires some { 1 ≤ length bytes.now }
     requires few { length bytes.now ≤ 176 }
     requires inside { at + length bytes.now ≤ 1472 }

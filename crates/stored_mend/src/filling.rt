@@ -28,6 +28,13 @@ use db_model::{Attributes, row_length};
 // The most bytes of a row.
 const ROW_SIZE: usize = 128;
 
+// What stands of a row at the end of a relation's file: so many bytes.
+#[derive(Clone, Copy)]
+struct Tail {
+    file: FileId,
+    have: usize,
+}
+
 /// Fills a row that is there in part at the end of a relation's file to a removed row, by one append. It answers
 /// whether it did: not where the part is the front of no row, where an index of the relation does not take the row,
 /// or where a relation of the version has no slot more.
@@ -56,7 +63,7 @@ pub fn fill_row<V: Files>(
 {
     match part_at_end(files, file, attributes, catalog.version) {
         Some(have) => {
-            let filled = fill_part(files, file, attributes, catalog, relation, have)?;
+            let filled = fill_part(files, Tail { file, have }, attributes, catalog, relation)?;
             Ok(filled)
         }
         None => Ok(false),
@@ -80,7 +87,14 @@ pub fn may_fill<V: Files>(
         Some(have) => {
             let mut bytes = [0; ROW_SIZE];
             let row = &mut bytes[..row_length(attributes)];
-            removed_row(files, file, attributes, catalog, relation, have, row)
+            removed_row(
+                files,
+                Tail { file, have },
+                attributes,
+                catalog,
+                relation,
+                row,
+            )
         }
         None => Ok(false),
     }
@@ -116,40 +130,39 @@ fn part_at_end<V: Files>(
     Some(have)
 }
 
-// Fills a row of which so many bytes stand at the end of a file, where they are the front of one that each index takes.
+// Fills a row of which a part stands at the end of a file, where it is the front of one that each index takes.
 fn fill_part<V: Files>(
     files: &mut V,
-    file: FileId,
+    tail: Tail,
     attributes: &Attributes,
     catalog: &Catalog,
     relation: RelationId,
-    have: usize,
 ) -> Result<bool, FileError>
-    requires live { IsLive (V.state files.old).files file }
+    requires live { IsLive (V.state files.old).files tail.file }
     requires idle { (V.state files.old).draft ≡ None }
-    requires doubles { (file_at (V.state files.old).files file).kind ≡ Doubling }
+    requires doubles { (file_at (V.state files.old).files tail.file).kind ≡ Doubling }
     requires short { row_length attributes.now ≤ 128 }
-    requires have { whole_length attributes.now (bytes_at (V.state files.old).files file) + have
-        ≡ size_at (V.state files.old).files file }
-    requires part { have < row_length attributes.now }
-    requires few { slots_in_bytes attributes.now (bytes_at (V.state files.old).files file) < 32768 }
-    ensures may { let bytes = bytes_at (V.state files.old).files file in IsTrue (V.state files.old).tells
+    requires have { whole_length attributes.now (bytes_at (V.state files.old).files tail.file) + tail.have
+        ≡ size_at (V.state files.old).files tail.file }
+    requires part { tail.have < row_length attributes.now }
+    requires few { slots_in_bytes attributes.now (bytes_at (V.state files.old).files tail.file) < 32768 }
+    ensures may { let bytes = bytes_at (V.state files.old).files tail.file in IsTrue (V.state files.old).tells
         → IfOk result (λ filled. Decides filled (HasFilling (catalog_slots catalog.now) relation attributes.now bytes)) }
     ensures filled { IfOk result (λ filled. IsTrue filled
-        → FillsRow (V.state files.old) (V.state files.new) file attributes.now) }
+        → FillsRow (V.state files.old) (V.state files.new) tail.file attributes.now) }
     ensures stays { IfOk result (λ filled. IsFalse filled → V.state files.new ≡ V.state files.old) }
-    ensures space { OnSpace result (λ _. KeepsBytes (V.state files.old) (V.state files.new) file) }
+    ensures space { OnSpace result (λ _. KeepsBytes (V.state files.old) (V.state files.new) tail.file) }
     ensures cut { let slots = catalog_slots catalog.now in
         CutKeepsOrLeaves V.cuts V.mends V.state files.old files.new (WhereFailed result)
-        (λ after. FillsPartly slots relation attributes.now (V.state files.old) after file) }
+        (λ after. FillsPartly slots relation attributes.now (V.state files.old) after tail.file) }
     ensures frame { ChangesOrLacks V.state V.lent V.reads V.faults V.lacks files.old files.new result }
 {
     let mut bytes = [0; ROW_SIZE];
     let row = &mut bytes[..row_length(attributes)];
-    if !removed_row(files, file, attributes, catalog, relation, have, row)? {
+    if !removed_row(files, tail, attributes, catalog, relation, row)? {
         return Ok(false);
     }
-    append_rest(files, file, row, have)?;
+    append_rest(files, tail, row)?;
     Ok(true)
 }
 
@@ -170,41 +183,40 @@ fn has_slot<V: Files>(files: &V, file: FileId, length: u32, version: u8) -> bool
 // each index takes.
 fn removed_row<V: Files>(
     files: &mut V,
-    file: FileId,
+    tail: Tail,
     attributes: &Attributes,
     catalog: &Catalog,
     relation: RelationId,
-    have: usize,
     row: &mut [u8],
 ) -> Result<bool, Failed>
-    requires live { IsLive (V.state files.old).files file }
+    requires live { IsLive (V.state files.old).files tail.file }
     requires size { length row.old ≡ row_length attributes.now }
     requires short { row_length attributes.now ≤ 128 }
-    requires have { whole_length attributes.now (bytes_at (V.state files.old).files file) + have
-        ≡ size_at (V.state files.old).files file }
-    requires part { have < row_length attributes.now }
+    requires have { whole_length attributes.now (bytes_at (V.state files.old).files tail.file) + tail.have
+        ≡ size_at (V.state files.old).files tail.file }
+    requires part { tail.have < row_length attributes.now }
     ensures front { IsTrue (V.state files.old).tells → OnOk result
-        (take have row.new ≡ part_of_row attributes.now (bytes_at (V.state files.old).files file)) }
+        (take tail.have row.new ≡ part_of_row attributes.now (bytes_at (V.state files.old).files tail.file)) }
     ensures fills { IsTrue (V.state files.old).tells → OnOk result (FillsPart attributes.now
-        (row_before attributes.now (bytes_at (V.state files.old).files file))
-        (part_of_row attributes.now (bytes_at (V.state files.old).files file)) row.new) }
+        (row_before attributes.now (bytes_at (V.state files.old).files tail.file))
+        (part_of_row attributes.now (bytes_at (V.state files.old).files tail.file)) row.new) }
     ensures marked { OnOk result (slice_index row.new (length row.new - 1) ≡ 3) }
     ensures removed { IfOk result (λ removed. IsTrue removed → IsRemovedRow attributes.now row.new) }
-    ensures may { let bytes = bytes_at (V.state files.old).files file in IsTrue (V.state files.old).tells
+    ensures may { let bytes = bytes_at (V.state files.old).files tail.file in IsTrue (V.state files.old).tells
         → IfOk result (λ may. Decides may (HasFilling (catalog_slots catalog.now) relation attributes.now bytes)) }
     ensures size { length row.new ≡ length row.old }
     ensures frame { OnlyReads V.state V.lent V.reads V.faults files.old files.new result }
 {
     let length = row.len();
-    let size = files.size(file);
-    let whole = size - have as u32;
+    let size = files.size(tail.file);
+    let whole = size - tail.have as u32;
     blank(row);
-    read_front(files, file, whole, have, row)?;
+    read_front(files, tail.file, whole, tail.have, row)?;
     let mut last = [0; ROW_SIZE];
     let from = whole.saturating_sub(length as u32);
     let before = &mut last[..(whole - from) as usize];
-    files.read(file, from, before)?;
-    fill_fields(attributes.as_slice(), before, row, have);
+    files.read(tail.file, from, before)?;
+    fill_fields(attributes.as_slice(), before, row, tail.have);
     row[length - 1] = 3;
     let slots = size / length as u32;
     Ok(is_taken(attributes, catalog, relation, slots, before, row))
@@ -265,28 +277,23 @@ fn read_front<V: Files>(
 }
 
 // Appends the bytes of a row behind those that are there.
-fn append_rest<V: Files>(
-    files: &mut V,
-    file: FileId,
-    row: &[u8],
-    have: usize,
-) -> Result<(), FileError>
-    requires live { IsLive (V.state files.old).files file }
+fn append_rest<V: Files>(files: &mut V, tail: Tail, row: &[u8]) -> Result<(), FileError>
+    requires live { IsLive (V.state files.old).files tail.file }
     requires idle { (V.state files.old).draft ≡ None }
-    requires doubles { (file_at (V.state files.old).files file).kind ≡ Doubling }
-    requires part { have < length row.now }
+    requires doubles { (file_at (V.state files.old).files tail.file).kind ≡ Doubling }
+    requires part { tail.have < length row.now }
     requires short { length row.now ≤ 128 }
-    requires most { size_at (V.state files.old).files file + length row.now ≤ 4194304 + have }
+    requires most { size_at (V.state files.old).files tail.file + length row.now ≤ 4194304 + tail.have }
     requires last { slice_index row.now (length row.now - 1) ≢ 0 }
     ensures appended { OnOk result
-        (Appends (V.state files.old) (V.state files.new) file (drop have row.now)) }
-    ensures space { OnSpace result (λ _. KeepsBytes (V.state files.old) (V.state files.new) file) }
+        (Appends (V.state files.old) (V.state files.new) tail.file (drop tail.have row.now)) }
+    ensures space { OnSpace result (λ _. KeepsBytes (V.state files.old) (V.state files.new) tail.file) }
     ensures cut { CutKeepsOrLeaves V.cuts V.mends V.state files.old files.new (WhereFailed result)
-        (λ after. AppendsFront (V.state files.old) after file (drop have row.now)) }
+        (λ after. AppendsFront (V.state files.old) after tail.file (drop tail.have row.now)) }
     ensures frame { ChangesOrLacks V.state V.lent V.reads V.faults V.lacks files.old files.new result }
 {
-    files.prepare(file, 0, (row.len() - have) as u32)?;
-    files.append(file, &row[have..])?;
+    files.prepare(tail.file, 0, (row.len() - tail.have) as u32)?;
+    files.append(tail.file, &row[tail.have..])?;
     Ok(())
 }
 

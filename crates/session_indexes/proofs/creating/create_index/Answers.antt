@@ -2,12 +2,14 @@ use Rattle.std.proofs.Common.{rules, ◌≡◌, ℕ, ap, refl, sym, subst, Ok, B
 use Rattle.afl_base.specs.Files.{State}
 use Rattle.db_model.specs.Step.{Fine, outcome, upgraded}
 use Rattle.db_model.specs.declared.commands.Command.TheVariants as command
+use Rattle.db_model.specs.declared.refusals.Refusal.TheVariants as no
 use Rattle.db_model.specs.Ahead.{Aheads}
 use Rattle.session_model.specs.declared.held.Held.{Held}
 use Rattle.session_model.specs.Aheads.{aheads_of}
 use Rattle.session_model.specs.Running.{IsRunning}
 use Rattle.session_model.specs.View.{view}
 use Rattle.session_model.specs.Wanted.{WantsFew}
+use Rattle.session_model.proofs.Carrying.{carries_refused}
 use Rattle.session_model.proofs.Readable.{have_tables}
 use Rattle.session_indexes.proofs.Created.{asks_nothing, made_aheads, made_done, made_in_part, made_running, may_be, no_catalog, ready_for, refused_so, space_aheads, space_running, space_view, space_wants, tables_running}
 use Rattle.session_indexes.proofs.Refused.{no_relation}
@@ -20,65 +22,20 @@ stays false a = refl
 
 pub returns-in_default : goal.returns-in_default
 returns-in_default g c = record {
-  carried = record {
-    done = λ told. (
-        let s0 = g.V.Files.state c.args.base.now.files in
-        (ap upgraded (no_relation s0.files c.args.base.now.held c.args.base.now.opens c.args.relation.now c.args.attribute.now c.args.kind c.in_default.ensures.none), refl {a = view s0.files c.args.base.now.held c.args.base.now.opens})
-        );
-    running = search rules;
-    ahead = λ told. stays _ _;
-    tells = search rules;
-    wants = search rules;
-    lacks = search rules;
-    spares = λ told none. tt;
-    cut = search rules;
-    untouched = search rules;
-    same = search rules;
-    reads = search rules;
-    frame = search rules;
-  };
+  carried = carries_refused g.V.Files (command.CreateIndex c.args.relation.now c.args.attribute.now c.args.kind) c.args.base.now no.NoRelation c.requires.running
+      (λ told. ap upgraded (no_relation (g.V.Files.state c.args.base.now.files).files c.args.base.now.held c.args.base.now.opens c.args.relation.now c.args.attribute.now c.args.kind c.in_default.ensures.none));
 }
 
 pub returns-in-Err : goal.returns-in-Err
 returns-in-Err g c = record {
-  carried = record {
-    done = λ told. (
-        let s0 = g.V.Files.state c.args.base.now.files in
-        (ap upgraded (c.in-Err.ensures.refused s0.files c.args.base.now.opens c.args.relation.now c.in-Some.ensures.cell), refl {a = view s0.files c.args.base.now.held c.args.base.now.opens})
-        );
-    running = search rules;
-    ahead = λ told. stays _ _;
-    tells = search rules;
-    wants = search rules;
-    lacks = search rules;
-    spares = λ told none. tt;
-    cut = search rules;
-    untouched = search rules;
-    same = search rules;
-    reads = search rules;
-    frame = search rules;
-  };
+  carried = carries_refused g.V.Files (command.CreateIndex c.args.relation.now c.args.attribute.now c.args.kind) c.args.base.now c.in-Err.refusal c.requires.running
+      (λ told. ap upgraded (c.in-Err.ensures.refused (g.V.Files.state c.args.base.now.files).files c.args.base.now.opens c.args.relation.now c.in-Some.ensures.cell));
 }
 
 pub returns-in_default-cat : goal.returns-in_default-cat
 returns-in_default-cat g c = record {
-  carried = record {
-    done = λ told. (
-        let s0 = g.V.Files.state c.args.base.now.files in
-        absurd (no_catalog s0 c.args.base.now.tables c.args.base.now.held c.args.base.now.opens c.requires.running told c.in_default-cat.is c.in-Some.found.0 c.in-Some.found.1.now c.in-Some.ensures.there)
-        );
-    running = search rules;
-    ahead = λ told. stays _ _;
-    tells = search rules;
-    wants = search rules;
-    lacks = search rules;
-    spares = λ told none. tt;
-    cut = search rules;
-    untouched = search rules;
-    same = search rules;
-    reads = search rules;
-    frame = search rules;
-  };
+  carried = carries_refused g.V.Files (command.CreateIndex c.args.relation.now c.args.attribute.now c.args.kind) c.args.base.now no.NoRelation c.requires.running
+      (λ told. absurd (no_catalog (g.V.Files.state c.args.base.now.files) c.args.base.now.tables c.args.base.now.held c.args.base.now.opens c.requires.running told c.in_default-cat.is c.in-Some.found.0 c.in-Some.found.1.now c.in-Some.ensures.there));
 }
 
 pub make_index-requires-clause-tables : goal.make_index-requires-clause-tables
@@ -98,34 +55,31 @@ returns-in-Ok-Ok g c = record {
         let s0 = g.V.Files.state c.args.base.now.files in
         let s1 = g.V.Files.state c.make_index.new.files in
         let made = rw c.in-Ok-Ok.field-0-is at c.in-Ok-Ok.ensures.made in
-        let of_kind = rw c.in-Ok-Ok.field-0-is at c.in-Ok-Ok.ensures.kind in
         let tried = rw c.in-Ok-Ok.field-0-is at c.in-Ok-Ok.ensures.tried told in
         let P : Held → Type 0 = λ now. outcome (view s0.files c.args.base.now.held c.args.base.now.opens) (command.CreateIndex c.args.relation.now c.args.attribute.now c.args.kind)
         ≡ Ok (view s1.files now c.args.base.now.opens, Fine) in
         subst P (sym c.hold.ensures)
         (made_done s0 c.args.base.now.tables c.args.base.now.held c.args.base.now.opens c.requires.running c.in-Some-cat.cat c.in-Some-cat.is c.args.relation.now c.args.attribute.now c.args.kind
         c.in-Some.found.0 c.in-Some.found.1.now c.in-Some.ensures.cell c.in-Some.ensures.there c.in-Ok.site c.in-Ok.ensures.relation c.in-Ok.ensures.site
-        s1 c.make_index.new.tables c.in-Ok-Ok.access made of_kind told tried)
+        s1 c.make_index.new.tables c.in-Ok-Ok.access made told tried)
         );
     running = (
         let s0 = g.V.Files.state c.args.base.now.files in
         let s1 = g.V.Files.state c.make_index.new.files in
         let made = rw c.in-Ok-Ok.field-0-is at c.in-Ok-Ok.ensures.made in
-        let of_kind = rw c.in-Ok-Ok.field-0-is at c.in-Ok-Ok.ensures.kind in
         let P : Held → Type 0 = λ now. IsRunning s1 c.make_index.new.tables now c.args.base.now.opens in
         subst P (sym c.hold.ensures)
         (made_running s0 c.args.base.now.tables c.args.base.now.held c.args.base.now.opens c.requires.running c.in-Some-cat.cat c.in-Some-cat.is c.args.relation.now c.args.attribute.now c.args.kind
         c.in-Some.found.0 c.in-Some.found.1.now c.in-Some.ensures.cell c.in-Some.ensures.there c.in-Ok.site c.in-Ok.ensures.relation c.in-Ok.ensures.site
-        s1 c.make_index.new.tables c.in-Ok-Ok.access made of_kind)
+        s1 c.make_index.new.tables c.in-Ok-Ok.access made)
         );
     ahead = λ told. (
         let s0 = g.V.Files.state c.args.base.now.files in
         let s1 = g.V.Files.state c.make_index.new.files in
         let made = rw c.in-Ok-Ok.field-0-is at c.in-Ok-Ok.ensures.made in
-        let of_kind = rw c.in-Ok-Ok.field-0-is at c.in-Ok-Ok.ensures.kind in
         made_aheads s0 c.args.base.now.tables c.args.base.now.held c.args.base.now.opens c.requires.running c.in-Some-cat.cat c.in-Some-cat.is c.args.relation.now c.args.attribute.now c.args.kind
         c.in-Some.found.0 c.in-Some.found.1.now c.in-Some.ensures.cell c.in-Some.ensures.there c.in-Ok.site c.in-Ok.ensures.relation c.in-Ok.ensures.site
-        s1 c.make_index.new.tables c.in-Ok-Ok.access made of_kind told
+        s1 c.make_index.new.tables c.in-Ok-Ok.access made told
         ) ∙ stays _ _;
     tells = search rules;
     wants = search rules;

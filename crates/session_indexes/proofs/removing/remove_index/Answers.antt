@@ -1,11 +1,13 @@
 use Rattle.std.proofs.Common.{rules, ◌≡◌, ℕ, ap, refl, sym, subst, Ok, Bool, true, false, if◌then◌else◌, ◌∙◌}
 use Rattle.db_model.specs.Step.{Fine, outcome, upgraded}
 use Rattle.db_model.specs.declared.commands.Command.TheVariants as command
+use Rattle.db_model.specs.declared.refusals.Refusal.TheVariants as no
 use Rattle.db_model.specs.Ahead.{Aheads}
 use Rattle.session_model.specs.declared.held.Held.{Held}
 use Rattle.session_model.specs.Running.{IsRunning}
 use Rattle.session_model.specs.View.{view}
 use Rattle.session_model.specs.Wanted.{WantsFew}
+use Rattle.session_model.proofs.Carrying.{carries_refused}
 use Rattle.session_model.proofs.Catalogs.{catalog_there}
 use Rattle.session_indexes.proofs.Created.{no_catalog}
 use Rattle.session_indexes.proofs.Gone.{asks_nothing, file_there, gone_aheads, gone_done, gone_running, may_go, room_made, room_wants, same_aheads, same_view, taken_in_part}
@@ -19,65 +21,20 @@ stays false a = refl
 
 pub returns-in_default : goal.returns-in_default
 returns-in_default g c = record {
-  carried = record {
-    done = λ told. (
-        let s0 = g.V.Files.state c.args.base.now.files in
-        (ap upgraded (no_relation_of s0.files c.args.base.now.held c.args.base.now.opens c.args.relation.now c.args.attribute.now c.in_default.ensures.none), refl {a = view s0.files c.args.base.now.held c.args.base.now.opens})
-        );
-    running = search rules;
-    ahead = λ told. stays _ _;
-    tells = search rules;
-    wants = search rules;
-    lacks = search rules;
-    spares = λ told none. tt;
-    cut = search rules;
-    untouched = search rules;
-    same = search rules;
-    reads = search rules;
-    frame = search rules;
-  };
+  carried = carries_refused g.V.Files (command.RemoveIndex c.args.relation.now c.args.attribute.now) c.args.base.now no.NoRelation c.requires.running
+      (λ told. ap upgraded (no_relation_of (g.V.Files.state c.args.base.now.files).files c.args.base.now.held c.args.base.now.opens c.args.relation.now c.args.attribute.now c.in_default.ensures.none));
 }
 
 pub returns-in-Err : goal.returns-in-Err
 returns-in-Err g c = record {
-  carried = record {
-    done = λ told. (
-        let s0 = g.V.Files.state c.args.base.now.files in
-        (ap upgraded (c.in-Err.ensures.refused s0.files c.in-Some.ensures.cell), refl {a = view s0.files c.args.base.now.held c.args.base.now.opens})
-        );
-    running = search rules;
-    ahead = λ told. stays _ _;
-    tells = search rules;
-    wants = search rules;
-    lacks = search rules;
-    spares = λ told none. tt;
-    cut = search rules;
-    untouched = search rules;
-    same = search rules;
-    reads = search rules;
-    frame = search rules;
-  };
+  carried = carries_refused g.V.Files (command.RemoveIndex c.args.relation.now c.args.attribute.now) c.args.base.now c.in-Err.refusal c.requires.running
+      (λ told. ap upgraded (c.in-Err.ensures.refused (g.V.Files.state c.args.base.now.files).files c.in-Some.ensures.cell));
 }
 
 pub returns-in_default-cat : goal.returns-in_default-cat
 returns-in_default-cat g c = record {
-  carried = record {
-    done = λ told. (
-        let s0 = g.V.Files.state c.args.base.now.files in
-        absurd (no_catalog s0 c.args.base.now.tables c.args.base.now.held c.args.base.now.opens c.requires.running told c.in_default-cat.is c.in-Some.found.0 c.in-Some.found.1.now c.in-Some.ensures.there)
-        );
-    running = search rules;
-    ahead = λ told. stays _ _;
-    tells = search rules;
-    wants = search rules;
-    lacks = search rules;
-    spares = λ told none. tt;
-    cut = search rules;
-    untouched = search rules;
-    same = search rules;
-    reads = search rules;
-    frame = search rules;
-  };
+  carried = carries_refused g.V.Files (command.RemoveIndex c.args.relation.now c.args.attribute.now) c.args.base.now no.NoRelation c.requires.running
+      (λ told. absurd (no_catalog (g.V.Files.state c.args.base.now.files) c.args.base.now.tables c.args.base.now.held c.args.base.now.opens c.requires.running told c.in_default-cat.is c.in-Some.found.0 c.in-Some.found.1.now c.in-Some.ensures.there));
 }
 
 pub take_index-requires-clause-catalog : goal.take_index-requires-clause-catalog

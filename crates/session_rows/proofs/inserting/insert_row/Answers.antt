@@ -39,12 +39,12 @@ pub returns-in_err-refusal-clause-cut : goal.returns-in_err-refusal-clause-cut
 returns-in_err-refusal-clause-cut g c = λ cuts told.
     let old = g.V.Files.state c.args.files.now in
     let r = relation_of_rows old.files c.args.tuples.now in
-    on_err c.from_residual.result (λ k db version indexes.
+    on_err c.from_residual.result (λ k db is.
     mends_now old (subst (λ (s : State). g.V.Files.mends s.store old.files) (sym c.in_err-refusal.ensures.frame.same) (g.V.Files.mended c.args.files.now cuts told))
     (changed_none old c.args.tables.now c.args.tuples.now c.args.indexes.now (insert_into c.args.values.now k db r) c.requires.ready.holds))
 
 pub returns-in-Err-Failed-clause-cut : goal.returns-in-Err-Failed-clause-cut
-returns-in-Err-Failed-clause-cut g c = λ cuts told k db version indexes.
+returns-in-Err-Failed-clause-cut g c = λ cuts told k db is.
     let old = g.V.Files.state c.args.files.now in
     let same = c.in_ok-refusal.ensures.frame.same in
     let t = c.args.tuples.now in
@@ -53,7 +53,7 @@ returns-in-Err-Failed-clause-cut g c = λ cuts told k db version indexes.
     let r = relation_of_rows old.files t in
     let left = (rw same at (rw c.in-Err-Failed.field-0-is at c.in-Err-Failed.ensures.cut)) cuts told refl in
     let accepted = subst (λ (no : Option Refusal). IsRefusedBy (insert_into values k db r) no (record r { rows = r.rows ++ record { tuple = values; live = true } ∷ [] }))
-    c.in_default.is (c.in_ok-refusal.ensures.refused told k db version indexes) in
+    c.in_default.is (c.in_ok-refusal.ensures.refused told k db is.version is.indexes) in
     mends_as left (λ after m. changed_added old after c.args.tables.now t infos values (insert_into values k db r) accepted (c.in_ok-refusal.ensures.follow told c.in_default.is) m)
 
 pub returns-in-Ok-clause-spares : goal.returns-in-Ok-clause-spares

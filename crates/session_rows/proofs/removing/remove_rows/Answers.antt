@@ -26,9 +26,9 @@ returns-in-Ok-clause-removed g c = λ told condition code indexes.
     let late = g.V.Files.state c.select_slots.new.files in
     let new = g.V.Files.state c.remove_selected.new.files in
     let t = c.args.tuples.now in
-    let begun = c.in_ok-cursor.ensures in
+    let begun = c.in_ok-begin.ensures in
     let all = rows old.files t in
-    let is = is_selected old mid c.args.tables.now t c.copy.result c.args.indexes.now c.args.code c.in_ok-cursor.cursor c.in_ok-selected.selected c.copy.ensures begun.frame.same begun.begun.tuples
+    let is = is_selected old mid c.args.tables.now t c.copy.result c.args.indexes.now c.args.code c.begin.new.self c.in_ok-selected.selected c.copy.ensures begun.frame.same begun.begun.tuples
     (λ told condition code indexes. (begun.begins told condition code indexes).slots_left) begun.fits c.in_ok-selected.ensures.selected told condition code indexes in (
       is_removed old late new t c.args.code c.select_slots.new.cursor.code c.in_ok-selected.selected (c.in_ok-selected.ensures.frame.same ∙ begun.frame.same) (c.in_ok-selected.ensures.code ∙ begun.begun.code)
           c.in-Ok.ensures.rows told condition code is,
@@ -42,9 +42,9 @@ returns-in-Err-Space-clause-wants g c = λ told condition code indexes.
     let late = g.V.Files.state c.select_slots.new.files in
     let new = g.V.Files.state c.remove_selected.new.files in
     let t = c.args.tuples.now in
-    let begun = c.in_ok-cursor.ensures in
+    let begun = c.in_ok-begin.ensures in
     let all = rows old.files t in
-    let is = is_selected old mid c.args.tables.now t c.copy.result c.args.indexes.now c.args.code c.in_ok-cursor.cursor c.in_ok-selected.selected c.copy.ensures begun.frame.same begun.begun.tuples
+    let is = is_selected old mid c.args.tables.now t c.copy.result c.args.indexes.now c.args.code c.begin.new.self c.in_ok-selected.selected c.copy.ensures begun.frame.same begun.begun.tuples
     (λ told condition code indexes. (begun.begins told condition code indexes).slots_left) begun.fits c.in_ok-selected.ensures.selected told condition code indexes in
     let same = c.in_ok-selected.ensures.frame.same ∙ begun.frame.same in
     let kept : rows new.files t ≡ all =
@@ -63,22 +63,22 @@ returns-in-Err-Space-clause-replaces g c =
     let new = g.V.Files.state c.remove_selected.new.files in
     let t = c.args.tuples.now in
     let space : Prepares old new (λ id. id ≢ t.file) =
-    rw (c.in_ok-selected.ensures.frame.same ∙ c.in_ok-cursor.ensures.frame.same) at (rw c.in-Err-Space.field-0-is at c.in-Err-Space.ensures.space) in
+    rw (c.in_ok-selected.ensures.frame.same ∙ c.in_ok-begin.ensures.frame.same) at (rw c.in-Err-Space.field-0-is at c.in-Err-Space.ensures.space) in
     replaces_prepared old new t space c.requires.ready.holds
 
-pub returns-in_err-cursor-clause-cut : goal.returns-in_err-cursor-clause-cut
-returns-in_err-cursor-clause-cut g c = λ cuts told.
+pub returns-in_err-begin-clause-cut : goal.returns-in_err-begin-clause-cut
+returns-in_err-begin-clause-cut g c = λ cuts told.
     let old = g.V.Files.state c.args.files.now in
     let t = c.args.tuples.now in
     on_err c.from_residual.result (λ condition code indexes.
-    mends_now old (subst (λ (s : State). g.V.Files.mends s.store old.files) (sym c.in_err-cursor.ensures.frame.same) (g.V.Files.mended c.args.files.now cuts told))
+    mends_now old (subst (λ (s : State). g.V.Files.mends s.store old.files) (sym c.in_err-begin.ensures.frame.same) (g.V.Files.mended c.args.files.now cuts told))
     (removed_none old old t condition (c.requires.ready.holds.written told) (spares_same old (λ k. k ≢ t.file)) refl))
 
 pub returns-in_err-selected-clause-cut : goal.returns-in_err-selected-clause-cut
 returns-in_err-selected-clause-cut g c = λ cuts told.
     let old = g.V.Files.state c.args.files.now in
     let t = c.args.tuples.now in
-    let same = c.in_err-selected.ensures.frame.same ∙ c.in_ok-cursor.ensures.frame.same in
+    let same = c.in_err-selected.ensures.frame.same ∙ c.in_ok-begin.ensures.frame.same in
     on_err c.from_residual-in_err-selected.result (λ condition code indexes.
     mends_now old (subst (λ (s : State). g.V.Files.mends s.store old.files) (sym same) (g.V.Files.mended c.args.files.now cuts told))
     (removed_none old old t condition (c.requires.ready.holds.written told) (spares_same old (λ k. k ≢ t.file)) refl))
@@ -88,8 +88,8 @@ returns-in-Err-Failed-clause-cut g c = λ cuts told condition code indexes.
     let old = g.V.Files.state c.args.files.now in
     let mid = g.V.Files.state c.begin.new.files in
     let t = c.args.tuples.now in
-    let begun = c.in_ok-cursor.ensures in
-    let is = is_selected old mid c.args.tables.now t c.copy.result c.args.indexes.now c.args.code c.in_ok-cursor.cursor c.in_ok-selected.selected c.copy.ensures begun.frame.same begun.begun.tuples
+    let begun = c.in_ok-begin.ensures in
+    let is = is_selected old mid c.args.tables.now t c.copy.result c.args.indexes.now c.args.code c.begin.new.self c.in_ok-selected.selected c.copy.ensures begun.frame.same begun.begun.tuples
     (λ told condition code indexes. (begun.begins told condition code indexes).slots_left) begun.fits c.in_ok-selected.ensures.selected told condition code indexes in
     let same = c.in_ok-selected.ensures.frame.same ∙ begun.frame.same in
     let coded = c.in_ok-selected.ensures.code ∙ begun.begun.code in
@@ -105,9 +105,9 @@ returns-in-Ok-clause-spares g c = λ told condition code indexes never.
     let t = c.args.tuples.now in
     let s = c.in_ok-selected.selected in
     let size = size_at old.files t.file in
-    let begun = c.in_ok-cursor.ensures in
+    let begun = c.in_ok-begin.ensures in
     let all = rows old.files t in
-    let is = is_selected old (g.V.Files.state c.begin.new.files) c.args.tables.now t c.copy.result c.args.indexes.now c.args.code c.in_ok-cursor.cursor s c.copy.ensures begun.frame.same begun.begun.tuples
+    let is = is_selected old (g.V.Files.state c.begin.new.files) c.args.tables.now t c.copy.result c.args.indexes.now c.args.code c.begin.new.self s c.copy.ensures begun.frame.same begun.begun.tuples
     (λ told condition code indexes. (begun.begins told condition code indexes).slots_left) begun.fits c.in_ok-selected.ensures.selected told condition code indexes in
     let same = c.in_ok-selected.ensures.frame.same ∙ begun.frame.same in
     (rw same at c.in-Ok.ensures.spares) told (λ need wanted. never need

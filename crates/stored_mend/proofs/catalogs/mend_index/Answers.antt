@@ -24,42 +24,10 @@ use Rattle.stored_mend.proofs.CutCalls.{failed_handed, left_after, room_left, sp
 use Rattle.stored_mend.proofs.CutIndexes.{index_left}
 use Rattle.stored_mend.proofs.catalogs.mend_index.Goals as goal
 
-pub returns-in_default-clause-sound : goal.returns-in_default-clause-sound
-returns-in_default-clause-sound g c = λ told lacks. absurd (c.in_default.ensures.none (lacking_written (g.V.Files.state c.args.files.now).files c.args.slot c.requires.slot lacks))
-
-pub returns-in_default-new-clause-sound : goal.returns-in_default-new-clause-sound
-returns-in_default-new-clause-sound g c = λ told lacks. absurd (slot_number c.args.slot c.requires.slot c.new.result c.in_default-new.not-Some c.new.ensures)
-
-pub returns-then-bytes-ne2-clause-sound : goal.returns-then-bytes-ne2-clause-sound
-returns-then-bytes-ne2-clause-sound g c = λ told lacks.
-    let old = (g.V.Files.state c.args.files.now).files in
-    let slot : c.from.result ≡ c.args.slot = omega (arith, c.from.ensures) in
-    absurd (c.if-bytes-ne2.true (tree_code old c.in-Some.cat c.args.slot c.read.new.into c.in-Some.ensures.found (lacking_read old c.args.slot c.requires.slot lacks)
-    (subst (λ (n : ℕ). c.read.new.into ≡ slice_range (bytes_at old c.in-Some.cat) (1408 + 8 * n) (1408 + 8 * n + 8)) slot (c.in_ok-read.ensures.bytes told))))
-
-pub returns-in-Some-find-clause-sound : goal.returns-in-Some-find-clause-sound
-returns-in-Some-find-clause-sound g c = λ told lacks.
-    let old = g.V.Files.state c.args.files.now in
-    let named = rw (c.tree_file.ensures, c.in_ok-read.ensures.frame.same) at c.in-Some-find.ensures.found in
-    let there : is_there (tree_file c.args.slot) old.files ≡ true =
-    named_there old.files c.in-Some-find.field-0 (tree_file c.args.slot) (subst (λ (k : ℕ). IsNamed old.files c.in-Some-find.field-0 (tree_file k)) (slot_is c.args.slot c.in-Some-new.id c.in-Some-new.ensures) named) in
-    let no : false ≡ true = sym lacks.gone ∙ there in
-    absurd (cc)
-
 pub returns-clause-others : goal.returns-clause-others
 returns-clause-others g c =
-    spares_catalog (g.V.Files.state c.args.files.now) (g.V.Files.state c.overwrite.new.files) c.in-Some.cat _ _ c.in-Some.ensures.found.named
+    spares_catalog (g.V.Files.state c.args.files.now) (g.V.Files.state c.overwrite.new.files) c.in-Some.cat _ _ c.in-Some.ensures.found.whole.named
     (rw (c.in_ok-report_index.ensures.frame.same, c.in_ok-read.ensures.frame.same) at c.in_ok-overwrite.ensures.put)
-
-pub returns-clause-sound : goal.returns-clause-sound
-returns-clause-sound g c = λ told lacks.
-    let old = g.V.Files.state c.args.files.now in
-    let new = g.V.Files.state c.overwrite.new.files in
-    let slot : c.from.result ≡ c.args.slot = omega (arith, c.from.ensures) in
-    unbroken_without old new c.in-Some.cat c.args.slot c.in-Some.ensures.found c.requires.slot
-    (subst (λ (n : ℕ). Overwrites old new c.in-Some.cat (1408 + 8 * n) (index_slot_bytes None)) slot
-    (rw (c.in_ok-report_index.ensures.frame.same, c.in_ok-read.ensures.frame.same) at c.in_ok-overwrite.ensures.put))
-    told lacks
 
 pub returns-clause-kept : goal.returns-clause-kept
 returns-clause-kept g c =
@@ -68,7 +36,7 @@ returns-clause-kept g c =
     let bytes = bytes_at old.files c.in-Some.cat in
     let slot : c.from.result ≡ c.args.slot = omega (arith, c.from.ensures) in
     let two : slice_index_or c.read.new.into 0 0 ≡ 2 = omega (arith, c.if-bytes-ne2.false) in
-    index_kept old new c.in-Some.cat c.args.slot c.in-Some.ensures.found c.requires.slot
+    index_kept old new c.in-Some.cat c.args.slot c.in-Some.ensures.found.whole c.requires.slot
     (subst (λ (n : ℕ). Overwrites old new c.in-Some.cat (1408 + 8 * n) (index_slot_bytes None)) slot
     (rw (c.in_ok-report_index.ensures.frame.same, c.in_ok-read.ensures.frame.same) at c.in_ok-overwrite.ensures.put))
     (λ told. subst (λ (n : ℕ). is_tree (index_at bytes n) ≡ true) slot (tree_at bytes c.from.result (ap (λ (xs : List ℕ). slice_index xs 0) (sym (c.in_ok-read.ensures.bytes told)) ∙ two)))
@@ -83,7 +51,7 @@ returns-in_default-clause-listed g c = λ told l.
 pub returns-then-bytes-ne2-clause-listed : goal.returns-then-bytes-ne2-clause-listed
 returns-then-bytes-ne2-clause-listed g c = λ told l.
     let old = (g.V.Files.state c.args.files.now).files in
-    let w = c.in-Some.ensures.found in
+    let w = c.in-Some.ensures.found.whole in
     let slot : c.from.result ≡ c.args.slot = omega (arith, c.from.ensures) in
     subst (λ (s : State). IsListedTo (indexes_below (c.args.slot + 1)) s.files) (sym c.in_ok-read.ensures.frame.same)
     (index_listed old c.in-Some.cat c.args.slot w
@@ -96,7 +64,7 @@ returns-in-Some-find-clause-listed g c = λ told l.
     let old = g.V.Files.state c.args.files.now in
     let named = rw (c.tree_file.ensures, c.in_ok-read.ensures.frame.same) at c.in-Some-find.ensures.found in
     subst (λ (s : State). IsListedTo (indexes_below (c.args.slot + 1)) s.files) (sym c.in_ok-read.ensures.frame.same)
-    (index_listed old.files c.in-Some.cat c.args.slot c.in-Some.ensures.found
+    (index_listed old.files c.in-Some.cat c.args.slot c.in-Some.ensures.found.whole
     (λ tree. named_there old.files c.in-Some-find.field-0 (tree_file c.args.slot) (subst (λ (k : ℕ). IsNamed old.files c.in-Some-find.field-0 (tree_file k)) (slot_is c.args.slot c.in-Some-new.id c.in-Some-new.ensures) named))
     l)
 
@@ -108,8 +76,8 @@ returns-clause-listed g c = λ told l.
     let o = subst (λ (n : ℕ). Overwrites old new c.in-Some.cat (1408 + 8 * n) (index_slot_bytes None)) slot
     (rw (c.in_ok-report_index.ensures.frame.same, c.in_ok-read.ensures.frame.same) at c.in_ok-overwrite.ensures.put) in
     let none = subst (λ (k : ℕ). IsUnnamed old.files (tree_file k)) (slot_is c.args.slot c.in-Some-new.id c.in-Some-new.ensures) (rw (c.tree_file.ensures, c.in_ok-read.ensures.frame.same) at c.in-None.ensures.none) in
-    blanked_listed old new c.in-Some.cat c.args.slot c.requires.slot told c.in-Some.ensures.found
-    (keeps_becomes old new c.in-Some.cat _ _ c.in-Some.ensures.found o (returns-clause-kept g c).base) o (ap is_some (named_none old.files (tree_file c.args.slot) none)) l
+    blanked_listed old new c.in-Some.cat c.args.slot c.requires.slot told c.in-Some.ensures.found.whole
+    (keeps_becomes old new c.in-Some.cat _ _ c.in-Some.ensures.found.whole o (returns-clause-kept g c).base) o (ap is_some (named_none old.files (tree_file c.args.slot) none)) l
 
 pub returns-in_default-clause-loses : goal.returns-in_default-clause-loses
 returns-in_default-clause-loses g c = λ told lacks. absurd (c.in_default.ensures.none (lacking_written (g.V.Files.state c.args.files.now).files c.args.slot c.requires.slot lacks))
@@ -121,7 +89,7 @@ pub returns-then-bytes-ne2-clause-loses : goal.returns-then-bytes-ne2-clause-los
 returns-then-bytes-ne2-clause-loses g c = λ told lacks.
     let old = (g.V.Files.state c.args.files.now).files in
     let slot : c.from.result ≡ c.args.slot = omega (arith, c.from.ensures) in
-    absurd (c.if-bytes-ne2.true (tree_code old c.in-Some.cat c.args.slot c.read.new.into c.in-Some.ensures.found (lacking_read old c.args.slot c.requires.slot lacks)
+    absurd (c.if-bytes-ne2.true (tree_code old c.in-Some.cat c.args.slot c.read.new.into c.in-Some.ensures.found.whole (lacking_read old c.args.slot c.requires.slot lacks)
     (subst (λ (n : ℕ). c.read.new.into ≡ slice_range (bytes_at old c.in-Some.cat) (1408 + 8 * n) (1408 + 8 * n + 8)) slot (c.in_ok-read.ensures.bytes told))))
 
 pub returns-in-Some-find-clause-loses : goal.returns-in-Some-find-clause-loses
@@ -138,10 +106,10 @@ returns-clause-loses g c = λ told lacks.
     let old = g.V.Files.state c.args.files.now in
     let new = g.V.Files.state c.overwrite.new.files in
     let slot : c.from.result ≡ c.args.slot = omega (arith, c.from.ensures) in
-    index_lost old new c.in-Some.cat c.args.slot c.in-Some.ensures.found c.requires.slot
-    (subst (λ (n : ℕ). Overwrites old new c.in-Some.cat (1408 + 8 * n) (index_slot_bytes None)) slot
-    (rw (c.in_ok-report_index.ensures.frame.same, c.in_ok-read.ensures.frame.same) at c.in_ok-overwrite.ensures.put))
-    told
+    let w = c.in-Some.ensures.found.whole in
+    let o = subst (λ (n : ℕ). Overwrites old new c.in-Some.cat (1408 + 8 * n) (index_slot_bytes None)) slot
+    (rw (c.in_ok-report_index.ensures.frame.same, c.in_ok-read.ensures.frame.same) at c.in_ok-overwrite.ensures.put) in
+    index_lost old new c.in-Some.cat c.args.slot w c.requires.slot o told (unbroken_without old new c.in-Some.cat c.args.slot w c.requires.slot o told lacks)
 
 -- what is left where the call failed
 
@@ -158,7 +126,7 @@ returns-in_err-overwrite-clause-cut g c = λ told cut cuts failed.
     left_after
     (left cuts told (failed_handed c.overwrite.result c.from_residual-in_err-overwrite.result c.in_err-overwrite.field-0.0 c.in_err-overwrite.was c.from_residual-in_err-overwrite.ensures.1 failed))
     (λ (after : State) w.
-    index_left old after c.in-Some.cat c.args.slot c.requires.slot told c.in-Some.ensures.found tree none cut
+    index_left old after c.in-Some.cat c.args.slot c.requires.slot told c.in-Some.ensures.found.whole tree none cut
     (subst (λ (n : ℕ). OverwritesFront old after c.in-Some.cat (1408 + 8 * n) (index_slot_bytes None)) slot w))
 
 pub returns-in_err-overwrite-clause-space : goal.returns-in_err-overwrite-clause-space
@@ -167,7 +135,7 @@ returns-in_err-overwrite-clause-space g c = λ told cut.
     let new = g.V.Files.state c.overwrite.new.files in
     let kept = rw (c.in_ok-report_index.ensures.frame.same, c.in_ok-read.ensures.frame.same) at c.overwrite.ensures.space in
     space_handed c.overwrite.result c.from_residual-in_err-overwrite.result c.in_err-overwrite.field-0.0 _ (IsCutState new (λ (db : Database). db ≡ mended_base old.files)) c.in_err-overwrite.was c.from_residual-in_err-overwrite.ensures.1
-    (λ k. room_left old new c.in-Some.cat c.in-Some.ensures.live told k (λ (db : Database). db ≡ mended_base old.files) c.requires.idle cut refl)
+    (λ k. room_left old new c.in-Some.cat c.in-Some.ensures.found.live told k (λ (db : Database). db ≡ mended_base old.files) c.requires.idle cut refl)
     kept
 
 -- what is told
@@ -188,19 +156,19 @@ returns-clause-reported g c = λ told names.
     let slot : c.from.result ≡ c.args.slot = omega (arith, c.from.ensures) in
     let two : slice_index_or c.read.new.into 0 0 ≡ 2 = omega (arith, c.if-bytes-ne2.false) in
     let line = rw c.in_ok-read.ensures.frame.same at c.in_ok-report_index.ensures.told in
-    index_reported old new c.in-Some.cat c.args.slot c.read.new.into c.requires.slot told c.in-Some.ensures.found
+    index_reported old new c.in-Some.cat c.args.slot c.read.new.into c.requires.slot told c.in-Some.ensures.found.whole
     (subst (λ (n : ℕ). Overwrites old new c.in-Some.cat (1408 + 8 * n) (index_slot_bytes None)) slot
     (rw (c.in_ok-report_index.ensures.frame.same, c.in_ok-read.ensures.frame.same) at c.in_ok-overwrite.ensures.put))
     (subst (λ (k : ℕ). IsUnnamed old.files (tree_file k)) (slot_is c.args.slot c.in-Some-new.id c.in-Some-new.ensures) (rw (c.tree_file.ensures, c.in_ok-read.ensures.frame.same) at c.in-None.ensures.none))
     (subst (λ (n : ℕ). c.read.new.into ≡ slice_range (bytes_at old.files c.in-Some.cat) (1408 + 8 * n) (1408 + 8 * n + 8)) slot (c.in_ok-read.ensures.bytes told))
-    two names _ _ (line told c.in-Some.ensures.found)
+    two names _ _ (line told c.in-Some.ensures.found.whole)
 
 pub returns-clause-slots : goal.returns-clause-slots
 returns-clause-slots g c = λ told.
     let old = g.V.Files.state c.args.files.now in
     let new = g.V.Files.state c.overwrite.new.files in
     let slot : c.from.result ≡ c.args.slot = omega (arith, c.from.ensures) in
-    blank_spares old new c.in-Some.cat c.args.slot c.requires.slot told c.in-Some.ensures.found
+    blank_spares old new c.in-Some.cat c.args.slot c.requires.slot told c.in-Some.ensures.found.whole
     (subst (λ (n : ℕ). Overwrites old new c.in-Some.cat (1408 + 8 * n) (index_slot_bytes None)) slot
     (rw (c.in_ok-report_index.ensures.frame.same, c.in_ok-read.ensures.frame.same) at c.in_ok-overwrite.ensures.put))
 

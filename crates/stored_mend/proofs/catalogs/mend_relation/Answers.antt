@@ -15,8 +15,8 @@ returns-in_default-clause-listed g c = λ told l.
 pub returns-in-None-clause-listed : goal.returns-in-None-clause-listed
 returns-in-None-clause-listed g c = λ told l.
     subst (λ (s : State). IsListedTo (relations_below (c.args.slot + 1)) s.files) (sym c.in_ok-relation_in.ensures.frame.same)
-    (strange_listed (g.V.Files.state c.args.files.now).files c.in-Some.cat c.args.slot (relations_below c.args.slot) (relations_below (c.args.slot + 1)) c.requires.slot c.in-Some.ensures.found l
-    (rw c.in-None.is at (c.in_ok-relation_in.ensures.strange told c.in-Some.ensures.found)))
+    (strange_listed (g.V.Files.state c.args.files.now).files c.in-Some.cat c.args.slot (relations_below c.args.slot) (relations_below (c.args.slot + 1)) c.requires.slot c.in-Some.ensures.found.whole l
+    (rw c.in-None.is at (c.in_ok-relation_in.ensures.strange told c.in-Some.ensures.found.whole)))
 
 -- what is left where the slot could not be read
 

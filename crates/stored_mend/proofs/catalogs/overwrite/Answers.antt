@@ -9,4 +9,4 @@ returns-in_err-prepare-clause-cut g c = λ cuts told failed.
     mends_now old
     (c.prepare.ensures.cut cuts told
     (failed_handed c.prepare.result c.from_residual.result c.in_err-prepare.field-0.0 c.in_err-prepare.was c.from_residual.ensures.1 failed))
-    (nothing_put old c.args.cat c.args.at c.args.bytes.now c.requires.live)
+    (nothing_put old c.args.cat c.args.at c.args.bytes.now c.requires.catalog.live)

@@ -18,7 +18,7 @@ use Rattle.stored_mend.proofs.catalogs.take_back_attribute.Goals as goal
 
 pub returns-clause-kept : goal.returns-clause-kept
 returns-clause-kept g c = λ is.
-    attribute_kept (g.V.Files.state c.args.files.now) (g.V.Files.state c.overwrite.new.files) c.in-Some.cat c.args.slot _ _ c.args.schema.now c.in-Some.ensures.found c.requires.slot
+    attribute_kept (g.V.Files.state c.args.files.now) (g.V.Files.state c.overwrite.new.files) c.in-Some.cat c.args.slot _ _ c.args.schema.now c.in-Some.ensures.found.whole c.requires.slot
     (rw c.in_ok-read.ensures.frame.same at c.in_ok-overwrite.ensures.put) is
     (grind (arith, common_steps, c.len-front.ensures.value, c.len-front.ensures.few))
     (omega (arith, c.from.ensures, c.len-front.ensures.value))
@@ -33,7 +33,7 @@ pub returns-then-is_zeros-clause-listed : goal.returns-then-is_zeros-clause-list
 returns-then-is_zeros-clause-listed g c = λ told is m.
     let old = g.V.Files.state c.args.files.now in
     let n = length c.args.schema.now.attributes in
-    zeros_listed old (g.V.Files.state c.read.new.self) c.in-Some.cat c.args.slot c.args.schema.now c.requires.slot told c.in-Some.ensures.found (is told) (omega (arith, c.len-front.ensures.value, c.len-front.ensures.few)) m
+    zeros_listed old (g.V.Files.state c.read.new.self) c.in-Some.cat c.args.slot c.args.schema.now c.requires.slot told c.in-Some.ensures.found.whole (is told) (omega (arith, c.len-front.ensures.value, c.len-front.ensures.few)) m
     c.in_ok-read.ensures.frame.same _ _ c.read.new.into (c.in_ok-read.ensures.bytes told) (sym c.if-is_zeros.ensures)
     (omega (arith, c.from.ensures, c.len-front.ensures.value))
     (ap (λ (xs : List ℕ). length xs) (rest_zeros c.len-front.result n c.len-front.ensures.value) ∙ length-replicate {A = ℕ} (144 - 18 * n) 0)
@@ -41,7 +41,7 @@ returns-then-is_zeros-clause-listed g c = λ told is m.
 pub returns-clause-listed : goal.returns-clause-listed
 returns-clause-listed g c = λ told is m.
     let old = g.V.Files.state c.args.files.now in
-    cleared_listed old (g.V.Files.state c.overwrite.new.files) c.in-Some.cat c.args.slot c.args.schema.now c.requires.slot told c.in-Some.ensures.found (is told) (omega (arith, c.len-front.ensures.value, c.len-front.ensures.few)) m
+    cleared_listed old (g.V.Files.state c.overwrite.new.files) c.in-Some.cat c.args.slot c.args.schema.now c.requires.slot told c.in-Some.ensures.found.whole (is told) (omega (arith, c.len-front.ensures.value, c.len-front.ensures.few)) m
     _ _ (omega (arith, c.from.ensures, c.len-front.ensures.value)) (rest_zeros c.len-front.result (length c.args.schema.now.attributes) c.len-front.ensures.value) (rw c.in_ok-read.ensures.frame.same at c.in_ok-overwrite.ensures.put) (returns-clause-kept g c is).base
 
 -- what is left where a call failed
@@ -58,7 +58,7 @@ returns-in_err-overwrite-clause-cut g c = λ told is m cuts failed.
     left_after
     (left cuts told (failed_handed c.overwrite.result c.from_residual-in_err-overwrite.result c.in_err-overwrite.field-0.0 c.in_err-overwrite.was c.from_residual-in_err-overwrite.ensures.1 failed))
     (λ (after : State) f.
-    attribute_left old after c.in-Some.cat c.args.slot (relations_below c.args.slot) c.args.schema.now c.requires.slot told c.in-Some.ensures.found
+    attribute_left old after c.in-Some.cat c.args.slot (relations_below c.args.slot) c.args.schema.now c.requires.slot told c.in-Some.ensures.found.whole
     (omega (arith, c.len-front.ensures.value, c.len-front.ensures.few)) m.listed _ _
     (omega (arith, c.from.ensures, c.len-front.ensures.value)) (rest_zeros c.len-front.result (length c.args.schema.now.attributes) c.len-front.ensures.value) is f)
 
@@ -70,7 +70,7 @@ returns-in_err-overwrite-clause-space g c = λ told is m.
     let same : Database → Type 0 = λ db. db ≡ mended_base old.files in
     let kept = rw c.in_ok-read.ensures.frame.same at c.overwrite.ensures.space in
     space_handed c.overwrite.result c.from_residual-in_err-overwrite.result c.in_err-overwrite.field-0.0 (KeepsBytes old new cat) (IsCutState new same) c.in_err-overwrite.was c.from_residual-in_err-overwrite.ensures.1
-    (λ k. room_left old new cat c.in-Some.ensures.live told k same c.requires.idle (listed_is_cut (relations_below c.args.slot) old.files m.listed) refl)
+    (λ k. room_left old new cat c.in-Some.ensures.found.live told k same c.requires.idle (listed_is_cut (relations_below c.args.slot) old.files m.listed) refl)
     kept
 
 pub returns-in_default-clause-reported : goal.returns-in_default-clause-reported
@@ -85,7 +85,7 @@ returns-clause-reported g c = λ told is.
     let new = g.V.Files.state c.overwrite.new.files in
     let n = length c.args.schema.now.attributes in
     let kept = returns-clause-kept g c is in
-    attribute_reported old new c.in-Some.cat c.args.slot _ _ c.read.new.into _ c.args.schema.now c.requires.slot told c.in-Some.ensures.found (is told)
+    attribute_reported old new c.in-Some.cat c.args.slot _ _ c.read.new.into _ c.args.schema.now c.requires.slot told c.in-Some.ensures.found.whole (is told)
     (schema_kept old new c.args.slot c.args.schema.now kept c.requires.slot is (kept.tells ∙ told)) (omega (arith, c.len-front.ensures.value, c.len-front.ensures.few))
     (omega (arith, c.from.ensures, c.len-front.ensures.value))
     (ap (λ (xs : List ℕ). length xs) (rest_zeros c.len-front.result n c.len-front.ensures.value) ∙ length-replicate {A = ℕ} (144 - 18 * n) 0)

@@ -6,10 +6,10 @@ use Rattle.stored_mend.proofs.filling.append_rest.Goals as goal
 
 pub returns-clause-appended : goal.returns-clause-appended
 returns-clause-appended g c =
-    appends_behind (g.V.Files.state c.args.files.now) (g.V.Files.state c.prepare.new.self) (g.V.Files.state c.append.new.self) c.args.file _ c.in_ok-prepare.ensures.contents (rw (take_rest c.args.row.now c.args.have) at c.in_ok-append.ensures.appended)
+    appends_behind (g.V.Files.state c.args.files.now) (g.V.Files.state c.prepare.new.self) (g.V.Files.state c.append.new.self) c.args.tail.file _ c.in_ok-prepare.ensures.contents (rw (take_rest c.args.row.now c.args.tail.have) at c.in_ok-append.ensures.appended)
 
 pub returns-in_err-append-clause-cut : goal.returns-in_err-append-clause-cut
 returns-in_err-append-clause-cut g c = λ cuts told failed.
     let kept = c.in_ok-prepare.ensures.contents in
-    inr (mends_as ((rw (take_rest c.args.row.now c.args.have) at c.in_err-append.ensures.cut) cuts (kept.tells ∙ told))
-    (λ s f. front_behind (g.V.Files.state c.args.files.now) (g.V.Files.state c.prepare.new.self) s c.args.file _ kept f))
+    inr (mends_as ((rw (take_rest c.args.row.now c.args.tail.have) at c.in_err-append.ensures.cut) cuts (kept.tells ∙ told))
+    (λ s f. front_behind (g.V.Files.state c.args.files.now) (g.V.Files.state c.prepare.new.self) s c.args.tail.file _ kept f))

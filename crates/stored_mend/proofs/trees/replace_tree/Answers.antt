@@ -27,7 +27,7 @@ returns-in_ok-mend_index-in-Ok-false-clause-kept g c =
 pub returns-in_ok-mend_index-in-Ok-false-clause-settles : goal.returns-in_ok-mend_index-in-Ok-false-clause-settles
 returns-in_ok-mend_index-in-Ok-false-clause-settles g c =
     lost_settles _ _ _ c.args.catalog.now c.args.slot (c.in-Ok-false.ensures.gone c.in-Ok-false.field-0-test)
-    c.in_ok-mend_index-in-Ok-false.ensures.others c.in_ok-mend_index-in-Ok-false.ensures.loses c.in_ok-mend_index-in-Ok-false.ensures.sound
+    c.in_ok-mend_index-in-Ok-false.ensures.others c.in_ok-mend_index-in-Ok-false.ensures.loses
 
 pub returns-in_ok-mend_index-in-Ok-false-clause-frame : goal.returns-in_ok-mend_index-in-Ok-false-clause-frame
 returns-in_ok-mend_index-in-Ok-false-clause-frame g c =
@@ -92,7 +92,7 @@ returns-in_ok-mend_index-in-Ok-false-clause-reported g c = λ told h s wrong.
     let index = c.in_ok-mend_index-in-Ok-false.ensures in
     let settled = (returns-in_ok-mend_index-in-Ok-false-clause-settles g c).settles told h s in
     lost_reports old mid new slot c.requires.slot lost.spares (seen_none _ lacks.gone) index.others (index.slots here)
-    (sym (index_formed new.files slot c.requires.slot (unbroken new.files (index.sound here lacks)).inner) ∙ (index.loses here lacks).gone)
+    (sym (index_formed new.files slot c.requires.slot (unbroken new.files (index.loses here lacks).sound).inner) ∙ (index.loses here lacks).gone)
     settled.spares wrong settled.here (lost_tree old mid slot c.requires.slot lost.spares lacks)
     _ _ _ (c.in-Ok-false.ensures.still c.in-Ok-false.field-0-test) (index.reported here (unbroken_names mid.files slot c.requires.slot lacks.catalog))
 
