@@ -9,6 +9,7 @@ use Rattle.index_set.specs.declared.info.TableId.TheVariants.{First, Second}
 abbrev pub Tables : Type 0
 Tables = List (List ℤ)
 
+-- the place of a table among those that there are
 abbrev pub number : TableId → ℕ
 number First = 0
 number Second = 1

@@ -39,7 +39,8 @@ impl Model for HashTables {
 
 impl HashTables {
     /// Empty tables.
-    // Inlined, and written out one by one, so that the zeros are written where the tables are to stay.
+    // Inlined, and written out one by one, as many as `MOST_TABLES`, so that the zeros are written where
+    // the tables are to stay.
     #[inline(always)]
     pub fn new() -> HashTables
         ensures { (table : AnyTable) → entries result table ≡ [] }

@@ -2,7 +2,7 @@
 use Rattle.std.proofs.Common.{◌≡◌, ◌⊎◌, inl, inr, ⊎_elim, ℕ, ◌*◌, List, length, Option, None, refl, ap, sym, subst, ◌∙◌, arith}
 use Rattle.std.specs.Prelude.{Err, IfErr, Ok, Result, ⊤}
 use Rattle.afl_base.specs.Files.{Table}
-use Rattle.coffee_find.specs.Found.{IsTornAt, IsTroubleInside}
+use Rattle.coffee_find.specs.Found.{IsCutBy, IsTornAt, IsTroubleInside}
 use Rattle.coffee_find.specs.declared.trouble.TornRecord.{TornRecord}
 use Rattle.coffee_find.specs.declared.trouble.Trouble.{Trouble}
 use Rattle.coffee_layout.specs.Rules.{broken_image}
@@ -67,8 +67,8 @@ pub still_torn : (old new : List ℕ) (trouble : Trouble) → AwaitsCopy old new
 still_torn old new trouble a = λ torn is. subst (λ (r : TornRecord). IsTornAt new r.log.0 r.place) (some_same a.torn torn (sym a.found ∙ is)) a.still
 
 -- no tree was given up instead
-pub copy_needed : (old mid new : List ℕ) (trouble : Trouble) → new ≡ mid → AwaitsCopy old mid trouble → NoneToGiveUp mid trouble → IsCopyNeeded old new trouble
-copy_needed old mid new trouble same a none = subst (λ i. IsCopyNeeded old i trouble) (sym same) (record { awaits = a; none = none })
+pub copy_needed : (old mid new : List ℕ) (trouble : Trouble) → IsCutBy old trouble → new ≡ mid → AwaitsCopy old mid trouble → NoneToGiveUp mid trouble → IsCopyNeeded old new trouble
+copy_needed old mid new trouble cut same a none = subst (λ i. IsCopyNeeded old i trouble) (sym same) (record { cut = cut; awaits = a; none = none })
 
 -- what the pages are for
 pub files_need : (old new : List ℕ) (trouble : Trouble) (why : Hindrance) → OnSpaceless why (λ need. IsCopyNeeded old new trouble) → OnSpaceless why (λ need. NeedsPages old new)

@@ -2,7 +2,7 @@
 use Rattle.std.specs.Prelude.{◌≡◌, ◌≢◌, ◌⊎◌, ◌<◌, ℕ, true, List, None, Some}
 use Rattle.afl_base.specs.Files.{Table}
 use Rattle.catalog.specs.Rules.{is_tree}
-use Rattle.coffee_find.specs.Found.{IsTornAt}
+use Rattle.coffee_find.specs.Found.{IsCutBy, IsTornAt}
 use Rattle.coffee_find.specs.declared.trouble.TornRecord.{TornRecord}
 use Rattle.coffee_find.specs.declared.trouble.Trouble.{Trouble}
 use Rattle.coffee_layout.specs.Rules.{broken_image}
@@ -78,8 +78,9 @@ pub record IsNeeded (image : List ℕ) (torn : TornRecord) : Type 0 where
 abbrev pub NoneToGiveUp : List ℕ → Trouble → Type 0
 NoneToGiveUp image trouble = (torn : TornRecord) → trouble.torn ≡ Some torn → torn.used ≡ 29 → IsNeeded image torn
 
--- the file of a torn record must be copied, and no tree can be given up instead
+-- this is what a cut left of an image, the file of its torn record must be copied, and no tree can be given up instead
 pub record IsCopyNeeded (old new : List ℕ) (trouble : Trouble) : Type 0 where
+  pub cut : IsCutBy old trouble
   pub awaits : AwaitsCopy old new trouble
   pub none : NoneToGiveUp new trouble
 

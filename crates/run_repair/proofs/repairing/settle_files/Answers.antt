@@ -47,5 +47,5 @@ returns-else-branch-clause-needed g c = λ told cut.
     let mid = g.F.Flash.image c.mend_files.new.flash in
     let awaits = (rw c.in-Err-Spaceless.field-0-is at c.in-Err-Spaceless.ensures.wanted) told cut in
     let asked = c.in_ok-give_up_tree-in-Err-Spaceless.ensures in
-    copy_needed old mid (g.F.Flash.image c.give_up_tree.new.flash) c.args.trouble.now (asked.stays c.if-branch.false) awaits
+    copy_needed old mid (g.F.Flash.image c.give_up_tree.new.flash) c.args.trouble.now cut (asked.stays c.if-branch.false) awaits
     (asked.needed told (still_torn old mid c.args.trouble.now awaits) c.if-branch.false)
