@@ -38,7 +38,7 @@ def measured():
     return [it for it in MEASURED if it[0] in found]
 
 
-MOST_RAM = 76 * 1024
+MOST_RAM = 64 * 1024
 
 
 def deepest(board):
@@ -70,7 +70,8 @@ def test_the_memory_of_the_library_is_as_large_as_any_calls_need():
 
 def test_every_form_fits_into_the_memory_of_a_board():
     for words in measured():
-        bound = deepest(build(*words))
+        # where a run is measured, board_start keeps up to 16 bytes more
+        bound = deepest(build(*words)) + 16
         board, most = build(*words, "measure"), {"stack": 0, "heap": 0}
         runs = [("run", f"{EXAMPLES}/{it}.aql") for it in examples()]
         runs += [("gen", "7", "100"), ("plan", "100"), ("dump",), ("look",), ("check",), ("repair",), ("collect",)]

@@ -19,9 +19,9 @@ def test_each_example_has_its_replies():
         raise AssertionError("there are no examples")
 
 
-def test_every_form_runs_on_96_KiB_of_stack():
+def test_every_form_runs_on_80_KiB_of_stack():
     # what is promised is promised of the proved build of the first compiler
-    most = 96 if tried.is_proved and not tried.program.endswith(".by-rattle") else 320
+    most = 80 if tried.is_proved and not tried.program.endswith(".by-rattle") else 320
     small = {"limit": f"ulimit -s {most}", "env": {"PATH": os.environ["PATH"]}}
     for script in sorted(it for it in os.listdir(EXAMPLES) if it.endswith(".aql")):
         run("run", f"{script}.img", f"{EXAMPLES}/{script}", **small)
