@@ -34,7 +34,6 @@ pub fn parse(bytes: &[u8], command: &mut Command) -> Result<(), Refusal>
     ensures condition { OnOk result (IsCondition (nodes_of command.new)) }
     ensures same { OnErr result (command.new ≡ command.old) }
 {
-    conditions_are_read_back();
     if read_insert(bytes, command) {
         return Ok(());
     }

@@ -18,12 +18,12 @@ impl<F: Flash> Files for Volume<F> {
     ghost use Rattle.afl_base.specs.Fit.{fit};
     ghost use Rattle.afl_base.specs.Keeping.{Changes, ChangesOrLacks};
     ghost use Rattle.afl_base.specs.Regions.{regions};
-    ghost use Rattle.afl_base.specs.Sparing.{SparesPages, StandsStill, WantsNothing};
+    ghost use Rattle.afl_base.specs.Sparing.{SparesPages, WantsNothing};
     ghost use Rattle.coffee_merge.specs.Holding.{is_free_at};
     ghost use Rattle.coffee_volume.specs.Choices.{AsksNothing, ProvidesPages};
     ghost use Rattle.coffee_volume.specs.Cuts.{MendsToFiles};
     ghost use Rattle.coffee_volume.specs.KeptTables.{kept_mend, seen_asks};
-    ghost use Rattle.coffee_volume.specs.Lowest.{Looks, PlacesDraft, PlacesFile, Provides, Stops};
+    ghost use Rattle.coffee_volume.specs.Lowest.{Looks, PlacesDraft, PlacesFile};
     ghost use Rattle.coffee_volume.specs.Taking.{KeepsUnits, TakesForDraft, TakesForFile, TakesNone};
     ghost use Rattle.coffee_volume.specs.Volumes.{Asks, Lacks, WhereTold, state_seen};
 

@@ -79,7 +79,7 @@ fn open_select<V: Files>(
     Ok(Ok(Open::Select(opened)))
 }
 
-// The cursor of a JOIN. It reads nothing, and never fails.
+// The cursor of a JOIN. It reads nothing.
 // Not inlined, so that the copies of it are on the stack of no SELECT.
 #[inline(never)]
 fn open_join<V: Files>(

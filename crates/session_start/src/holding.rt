@@ -2,7 +2,7 @@
 
 #![tactic(auto)]
 
-ghost use Rattle.std.specs.Prelude.{◌≡◌, ◌<◌, ℕ, true, None, get_or, is_some, length, option_map, take};
+ghost use Rattle.std.specs.Prelude.{◌≡◌, ◌<◌, ℕ, true, None, get_or, is_some, length, option_map, replicate, take};
 ghost use Rattle.afl_base.specs.Files.{IsNamed};
 ghost use Rattle.catalog.specs.CatalogFile.{index_in as index_of_entry, indexes_in};
 ghost use Rattle.catalog.specs.Catalogs.{catalog_slots};
@@ -21,7 +21,10 @@ use session_model::{Held, Indexed};
 use tuple_file::Tuples;
 
 /// Holds nothing: no relation and no index.
-pub fn nothing_held() -> Held {
+pub fn nothing_held() -> Held
+    ensures relations { result.relations ≡ replicate 8 None }
+    ensures indexes { result.indexes ≡ replicate 8 None }
+{
     Held {
         version: 0,
         cat: None,

@@ -26,7 +26,7 @@ pub record IsReadSound (read : Catalog) (files : Table) (half : Half) : Type 0 w
   pub same : read ≡ catalog_in files
   pub stage : IsCatalogSound files half
 
--- the catalog and the files keep these rules, and every relation has whole rows in every relation
+-- the same, with whole rows in every relation
 pub record HasWholeRelations (files : Table) (half : Half) : Type 0 where
   pub stage : IsCatalogSound files half
   pub rows : (k : ℕ) (schema : Schema) → relation files k ≡ Some schema
