@@ -59,7 +59,7 @@ OthersWait at at_ count count_ node = (m : ℕ) → m ≢ node → (at_ m ≡ at
 
 -- one pair more waits
 module _ (at at_ count count_ : ℕ → ℕ) (groups draft full six : List ℕ) (n : ℕ) (a : Awaits 0 at count groups draft full)
-    (node : n < 341) (few : (m : ℕ) → count m < 4) (long : length groups ≡ 8184) (wide : length six ≡ 6)
+    (node : n < 341) (few : (m : ℕ) → count m < 4) (room : count n < 3) (long : length groups ≡ 6138) (wide : length six ≡ 6)
     (here : 0 < count n → at_ n ≡ at n) (more : count_ n ≡ count n + 1) (others : OthersWait at at_ count count_ n)
     (fits : at_ n + 6 * count n + 6 ≤ length full) (zeros : HasZeros full (at_ n + 6 * count n) 6) (clear : IsClear at count n (at_ n + 6 * count n) 6) where
   abbrev place : ℕ
@@ -110,49 +110,49 @@ module _ (at at_ count count_ : ℕ → ℕ) (groups draft full six : List ℕ) 
       a.free x (record { node = w.node; later = omega arith; among = w.among; behind = omega (arith, at_is, behind); before = omega (arith, at_is, count_is, before) }))
       (same_or w.node n)
 
-  held : (m i : ℕ) → m < 341 → i < 6 * count_ m → get_or (put_at full place six) (at_ m + i) 0 ≡ get_or (put_at groups (24 * n + 6 * count n) six) (24 * m + i) 0
+  held : (m i : ℕ) → m < 341 → i < 6 * count_ m → get_or (put_at full place six) (at_ m + i) 0 ≡ get_or (put_at groups (18 * n + 6 * count n) six) (18 * m + i) 0
   held m i among h = ⊎_elim
       (λ (e : m ≡ n).
       let at_is = ap at_ e in
       let count_is = ap count_ e in
-      let small = few n in
+      let small = room in
       ⊎_elim
       (λ (new : 6 * count n ≤ i).
       let j : ℕ = i - 6 * count n in
       let there : at_ m + i ≡ place + j = omega (arith, at_is, new) in
-      let here_ : 24 * m + i ≡ 24 * n + 6 * count n + j = omega (arith, e, new) in
+      let here_ : 18 * m + i ≡ 18 * n + 6 * count n + j = omega (arith, e, new) in
       let inside : j < length six = omega (arith, h, count_is, more, new, wide) in
       ap (λ (k : ℕ). get_or (put_at full place six) k 0) there
       ∙ put_at_here full six place j (omega (arith, wide, fits)) inside
-      ∙ sym (put_at_here groups six (24 * n + 6 * count n) j (omega (arith, wide, long, small, node)) inside)
-      ∙ ap (λ (k : ℕ). get_or (put_at groups (24 * n + 6 * count n) six) k 0) (sym here_))
+      ∙ sym (put_at_here groups six (18 * n + 6 * count n) j (omega (arith, wide, long, small, node)) inside)
+      ∙ ap (λ (k : ℕ). get_or (put_at groups (18 * n + 6 * count n) six) k 0) (sym here_))
       (λ (old : i < 6 * count n).
       let same = here (omega (arith, old)) in
       let there : at_ m + i ≡ at n + i = omega (arith, at_is, same) in
-      let here_ : 24 * m + i ≡ 24 * n + i = omega (arith, e) in
+      let here_ : 18 * m + i ≡ 18 * n + i = omega (arith, e) in
       ap (λ (k : ℕ). get_or (put_at full place six) k 0) there
       ∙ byte_stays full six place (at n + i) (omega (arith, wide, fits)) (inl (omega (arith, old, same)))
       ∙ a.held n i (omega arith) node old
-      ∙ sym (byte_stays groups six (24 * n + 6 * count n) (24 * n + i) (omega (arith, wide, long, small, node)) (inl (omega (arith, old))))
-      ∙ ap (λ (k : ℕ). get_or (put_at groups (24 * n + 6 * count n) six) k 0) (sym here_))
+      ∙ sym (byte_stays groups six (18 * n + 6 * count n) (18 * n + i) (omega (arith, wide, long, small, node)) (inl (omega (arith, old))))
+      ∙ ap (λ (k : ℕ). get_or (put_at groups (18 * n + 6 * count n) six) k 0) (sym here_))
       (order (6 * count n) i))
       (λ (d : m ≢ n).
       let same = others m d in
       let at_is = same.0 in
       let count_is = same.1 in
-      let small = few n in
+      let small = room in
       let small_ = few m in
       let old : i < 6 * count m = omega (arith, h, count_is) in
       ap (λ (k : ℕ). get_or (put_at full place six) (k + i) 0) at_is
       ∙ byte_stays full six place (at m + i) (omega (arith, wide, fits)) (⊎_elim (λ (x : at m + 6 * count m ≤ place). inl (omega (arith, x, old))) (λ (x : place + 6 ≤ at m). inr (omega (arith, x, wide))) (clear m among d (omega (arith, old))))
       ∙ a.held m i (omega arith) among old
-      ∙ sym (byte_stays groups six (24 * n + 6 * count n) (24 * m + i) (omega (arith, wide, long, small, node)) (⊎_elim (λ (x : n ≤ m). let up : n < m = less x d in inr (omega (arith, up, wide, small))) (λ (x : m < n). inl (omega (arith, x, old, small_))) (order n m))))
+      ∙ sym (byte_stays groups six (18 * n + 6 * count n) (18 * m + i) (omega (arith, wide, long, small, node)) (⊎_elim (λ (x : n ≤ m). let up : n < m = less x d in inr (omega (arith, up, wide, small))) (λ (x : m < n). inl (omega (arith, x, old, small_))) (order n m))))
       (same_or m n)
     where
       less : n ≤ m → m ≢ n → n < m
       less up d = ⊎_elim (λ (x : m ≤ n). absurd (d (omega (arith, x, up)))) (λ (x : n < m). x) (order m n)
 
-  pub await_pair : Awaits 0 at_ count_ (put_at groups (24 * n + 6 * count n) six) draft (put_at full (at_ n + 6 * count n) six)
+  pub await_pair : Awaits 0 at_ count_ (put_at groups (18 * n + 6 * count n) six) draft (put_at full (at_ n + 6 * count n) six)
   await_pair = record {
     size = a.size ∙ sym (length-put_at full six place (omega (arith, wide, fits)));
     free = free;
@@ -192,13 +192,12 @@ await_both at count groups draft full w p a fits clear =
     }
 
 -- those of a node are written, with what comes behind them
-module _ (from from_ : ℕ) (at at_ count count_ : ℕ → ℕ) (groups groups_ draft full full_ w : List ℕ) (n : ℕ) (a : Awaits from at count groups draft full)
-    (node : n < 341) (few : (m : ℕ) → count m < 4) (none : from_ ≤ n → count_ n ≡ 0) (others : OthersWait at at_ count count_ n)
+module _ (from from_ : ℕ) (at at_ count count_ : ℕ → ℕ) (groups draft full full_ w : List ℕ) (n : ℕ) (a : Awaits from at count groups draft full)
+    (node : n < 341) (none : from_ ≤ n → count_ n ≡ 0) (others : OthersWait at at_ count count_ n)
     (left : (m : ℕ) → m ≢ n → (from ≤ m → from_ ≤ m) × (from_ ≤ m → from ≤ m))
     (fits : at n + length w ≤ length full) (all : 6 * count n ≤ length w) (clear : IsClear at count n (at n) (length w)) (size_ : length full_ ≡ length full)
     (put : (i : ℕ) → i < length w → get_or full_ (at n + i) 0 ≡ get_or w i 0)
-    (same : (x : ℕ) → (x + 1 ≤ at n) ⊎ (at n + length w ≤ x) → get_or full_ x 0 ≡ get_or full x 0)
-    (beside : (m i : ℕ) → m ≢ n → i < 24 → get_or groups_ (24 * m + i) 0 ≡ get_or groups (24 * m + i) 0) where
+    (same : (x : ℕ) → (x + 1 ≤ at n) ⊎ (at n + length w ≤ x) → get_or full_ x 0 ≡ get_or full x 0) where
   fits_ : at n + length w ≤ length draft
   fits_ = let size = a.size in omega (arith, fits, size)
 
@@ -240,19 +239,17 @@ module _ (from from_ : ℕ) (at at_ count count_ : ℕ → ℕ) (groups groups_ 
       (a.rest x))
       (put_or draft w (at n) x fits_)
 
-  pub await_write : Awaits from_ at_ count_ groups_ (put_at draft (at n) w) full_
+  pub await_write : Awaits from_ at_ count_ groups (put_at draft (at n) w) full_
   await_write = record {
     size = length-put_at draft w (at n) fits_ ∙ a.size ∙ sym size_;
     free = free_written;
     held = λ m i later among h. (let d = another m later (omega (arith, h)) in
         let others_ = others m d in
         let count_is = others_.1 in
-        let small = few m in
         let old : i < 6 * count m = omega (arith, h, count_is) in
         ap (λ (k : ℕ). get_or full_ (k + i) 0) others_.0
         ∙ same (at m + i) (outside m i among d old)
-        ∙ a.held m i ((left m d).1 later) among old
-        ∙ sym (beside m i d (omega (arith, old, small))));
+        ∙ a.held m i ((left m d).1 later) among old);
     rest = rest_written;
   }
 

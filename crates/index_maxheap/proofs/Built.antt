@@ -12,7 +12,7 @@ use Rattle.afl_base.proofs.FieldLaws.{length-put_at}
 use Rattle.afl_base.proofs.PaddedLaws.{padded_all, put_behind, put_in_front}
 use Rattle.db_model.specs.HashTree.{buckets, node}
 use Rattle.index_tree.specs.Buckets.{IsFirstBucket, IsPairBytes}
-use Rattle.index_maxheap.specs.Builds.{AreLast, Builds, IsBlank, HasOtherDraft}
+use Rattle.index_maxheap.specs.Builds.{AreLast, Builds, IsBlank, HasOtherDraft, place_of}
 use Rattle.index_tree.specs.Ends.{IsPathEnd, spot_of}
 use Rattle.index_tree.specs.Loads.{CountsPairs, IsLevel, load_of, opened_bucket}
 use Rattle.index_tree.specs.Pairs.{Pair, goes, pair_keys, pair_of, pairs_of, reaching}
@@ -157,14 +157,14 @@ blank_bucket tree new ps q hop number a blank key h now x up down = ⊎_elim
 pub way_deep : (a b : ℤ) (l h : ℕ) → Way a b l → (l < h → 4 ≤ l) → Way a b h
 way_deep a b l h way deep i k = ⊎_elim (λ (out : l ≤ i). chain_same a b i (let d = deep (omega (arith, out, k)) in omega (arith, d, out))) (λ (in_ : i < l). way i in_) (order l i)
 
-ends_pair : (loads places tree new : List ℕ) (ps : List Pair) (q : Pair) (level : ℕ) → IsTree tree ps → CountsPairs loads ps → AreLast loads places tree → IsLevel loads q.key level → get_or loads (node q.key level) 0 % 32 ≢ 0 →
-    ((key : ℤ) (h : ℕ) → number_of tree key h ≢ 0 → number_of new key h ≡ number_of tree key h) → AreLast (set loads (node q.key level) (get_or loads (node q.key level) 0 + 1)) places new
-ends_pair loads places tree new ps q level is counts ends lev partial keeps key l low some =
+ends_pair : (loads lasts tree new : List ℕ) (ps : List Pair) (q : Pair) (level : ℕ) → IsTree tree ps → CountsPairs loads ps → AreLast loads lasts tree → IsLevel loads q.key level → get_or loads (node q.key level) 0 % 32 ≢ 0 →
+    ((key : ℤ) (h : ℕ) → number_of tree key h ≢ 0 → number_of new key h ≡ number_of tree key h) → AreLast (set loads (node q.key level) (get_or loads (node q.key level) 0 + 1)) lasts new
+ends_pair loads lasts tree new ps q level is counts ends lev partial keeps key l low some =
     let n : ℕ = node q.key level in
     let v : ℕ = get_or loads n 0 + 1 in
     let small : n ≤ 340 = node_small q.key level lev.low in
     let long : length loads ≡ 341 = counts.long in
-    let last : 0 < get_or loads (node key l) 0 → (g : ℕ) → g ≡ last_hop loads key l → get_or places (node key l) 0 ≡ numbered_place (number_of new key g) = λ s g e.
+    let last : 0 < get_or loads (node key l) 0 → (g : ℕ) → g ≡ last_hop loads key l → place_of lasts (node key l) ≡ numbered_place (number_of new key g) = λ s g e.
     rw e (rw (keeps key (last_hop loads key l) (number_some tree ps key (last_hop loads key l) is (last_some loads ps key l counts low s))) (ends key l low s)) in
     ⊎_elim
     (λ (e : node key l ≡ n).
@@ -182,9 +182,9 @@ ends_pair loads places tree new ps q level is counts ends lev partial keeps key 
     same_quotient : (k m a b : ℕ) → a ≡ m + 1 → b ≡ m → m % 32 ≢ 0 → k + (a - 1) / 32 ≡ k + (b - 1) / 32
     same_quotient k m a b e f p = ⊎_elim (λ (x : m % 32 ≤ 0). absurd (p (omega (arith, x)))) (λ (x : 0 < m % 32). omega (arith, x, e, f)) (order (m % 32) 0)
 
-ends_bucket : (loads places tree new : List ℕ) (ps : List Pair) (q : Pair) (level hop number : ℕ) → IsTree tree ps → CountsPairs loads ps → length places ≡ 341 → AreLast loads places tree → IsLevel loads q.key level → hop ≡ level + get_or loads (node q.key level) 0 / 32 →
-    Appends tree new ps q hop number → AreLast (set loads (node q.key level) (get_or loads (node q.key level) 0 + 1)) (set places (node q.key level) (numbered_place number)) new
-ends_bucket loads places tree new ps q level hop number is counts wide ends lev hop_is a key l low some =
+ends_bucket : (loads lasts tree new : List ℕ) (ps : List Pair) (q : Pair) (level hop number : ℕ) → IsTree tree ps → CountsPairs loads ps → length lasts ≡ 341 → AreLast loads lasts tree → IsLevel loads q.key level → hop ≡ level + get_or loads (node q.key level) 0 / 32 →
+    Appends tree new ps q hop number → AreLast (set loads (node q.key level) (get_or loads (node q.key level) 0 + 1)) (set lasts (node q.key level) (number - 1)) new
+ends_bucket loads lasts tree new ps q level hop number is counts wide ends lev hop_is a key l low some =
     let n : ℕ = node q.key level in
     let v : ℕ = get_or loads n 0 + 1 in
     let small : n ≤ 340 = node_small q.key level lev.low in
@@ -194,7 +194,7 @@ ends_bucket loads places tree new ps q level hop number is counts wide ends lev 
     let both = node_way key q.key l level e in
     let same_level : l ≡ level = both.0 in
     let here : get_or (set loads n v) (node key l) 0 ≡ v = ap (λ (j : ℕ). get_or (set loads n v) j 0) e ∙ get_or-set_same loads n v 0 (omega (arith, small, long)) in
-    let place : get_or (set places n (numbered_place number)) (node key l) 0 ≡ numbered_place number = ap (λ (j : ℕ). get_or (set places n (numbered_place number)) j 0) e ∙ get_or-set_same places n (numbered_place number) 0 (omega (arith, small, wide)) in
+    let place : place_of (set lasts n (number - 1)) (node key l) ≡ numbered_place number = ap bucket_place (ap (λ (j : ℕ). get_or (set lasts n (number - 1)) j 0) e ∙ get_or-set_same lasts n (number - 1) 0 (omega (arith, small, wide))) in
     let g : l + (get_or (set loads n v) (node key l) 0 - 1) / 32 ≡ hop = omega (arith, here, hop_is, same_level) in
     let upper : level < hop → 4 ≤ level = λ less. ⊎_elim (λ (x : 4 ≤ level). x) (λ (x : level < 4). let room = lev.room x in absurd (omega (arith, room, less, hop_is))) (order 4 level) in
     let way : Way key q.key hop = way_deep key q.key l hop both.1 (λ less. let u = upper (omega (arith, less, same_level)) in omega (arith, u, same_level)) in
@@ -205,7 +205,7 @@ ends_bucket loads places tree new ps q level hop number is counts wide ends lev 
     let there : number_of tree key (last_hop loads key l) ≢ 0 = number_some tree ps key (last_hop loads key l) is (last_some loads ps key l counts low s) in
     let grown : number_of new key (last_hop loads key l) ≡ number_of tree key (last_hop loads key l) = kept tree new ps q hop number a key (last_hop loads key l) (old_is_other tree new ps q hop number a key (last_hop loads key l) there) in
     let g : l + (get_or (set loads n v) (node key l) 0 - 1) / 32 ≡ last_hop loads key l = ap (λ (m : ℕ). l + (m - 1) / 32) here in
-    rw g (get_or-set_other places n (node key l) (numbered_place number) 0 d ∙ ends key l low s ∙ ap numbered_place (sym grown)))
+    rw g (ap bucket_place (get_or-set_other lasts n (node key l) (number - 1) 0 d) ∙ ends key l low s ∙ ap numbered_place (sym grown)))
     (same_or (node key l) n)
 
 -- ---- the draft
@@ -234,12 +234,12 @@ drafts_then a b c given n at first second x y = record {
   tells = y.tells ∙ x.tells;
 }
 
-module _ (loads places : List ℕ) (opens : ℕ) (draft : List ℕ) (ps : List Pair) (key : ℤ) (level : ℕ) (b : Builds loads places opens draft ps) (lev : IsLevel loads key level) where
+module _ (loads lasts : List ℕ) (opens : ℕ) (draft : List ℕ) (ps : List Pair) (key : ℤ) (level : ℕ) (b : Builds loads lasts opens draft ps) (lev : IsLevel loads key level) where
   abbrev pub load : ℕ
   load = get_or loads (node key level) 0
 
   abbrev pub place : ℕ
-  place = get_or places (node key level) 0
+  place = place_of lasts (node key level)
 
   end_ : (hop : ℕ) × IsPathEnd ps key hop × (hop ≡ level + load / 32) × (length (reaching (goes key) hop ps) ≡ load % 32)
   end_ = end_level loads ps key level b.counts lev
@@ -335,7 +335,7 @@ module _ (loads places : List ℕ) (opens : ℕ) (draft : List ℕ) (ps : List P
 
   -- one pair more in a bucket
   pub builds_pair : (slot : ℕ) (w : List ℕ) (new : List ℕ) → load % 32 ≢ 0 → length ps ≡ slot → slot < 32768 → SlotsRise (ps ++ record { key = key; slot = slot } ∷ []) → IsPairBytes w (record { key = key; slot = slot }) → new ≡ put_at draft (place + 6 * (load % 32)) w →
-      Builds (set loads (node key level) (load + 1)) places opens new (ps ++ record { key = key; slot = slot } ∷ [])
+      Builds (set loads (node key level) (load + 1)) lasts opens new (ps ++ record { key = key; slot = slot } ∷ [])
   unfolding hop end_
   builds_pair slot w new partial many few rises_more pair new_is =
       let q : Pair = record { key = key; slot = slot } in
@@ -361,7 +361,7 @@ module _ (loads places : List ℕ) (opens : ℕ) (draft : List ℕ) (ps : List P
         blank = blank_pair b.tree w ps q hop b.is b.rises b.blank end_.1 some pair;
         counts = counts_more loads ps q level b.counts lev;
         long = b.long;
-        ends = ends_pair loads places b.tree tree_ ps q level b.is b.counts b.ends lev partial grown.keeps;
+        ends = ends_pair loads lasts b.tree tree_ ps q level b.is b.counts b.ends lev partial grown.keeps;
         count = b.count ∙ sym (buckets_more ps q hop end_.1 ∙ none_opened (buckets (pair_keys ps)) (length (reaching (goes key) hop ps)) (load % 32) len partial);
         fits = omega (arith, size, all, fits);
         padding = rw all whole;
@@ -374,7 +374,7 @@ module _ (loads places : List ℕ) (opens : ℕ) (draft : List ℕ) (ps : List P
   -- one bucket more
   pub builds_bucket : (slot at : ℕ) (w two_ : List ℕ) (new : List ℕ) → load % 32 ≡ 0 → (load ≡ 0 → at ≡ 2 * node key level) → (load ≢ 0 → at ≡ place + 192) → at + 3 ≤ bucket_place opens → length ps ≡ slot → slot < 32768 → bucket_place (opens + 1) ≤ length draft →
       SlotsRise (ps ++ record { key = key; slot = slot } ∷ []) → IsFirstBucket w (record { key = key; slot = slot }) → length two_ ≡ 2 → u16_at two_ 0 ≡ opens + 1 → new ≡ put_at (put_at draft (bucket_place opens) w) at two_ →
-      Builds (set loads (node key level) (load + 1)) (set places (node key level) (bucket_place opens)) (opens + 1) new (ps ++ record { key = key; slot = slot } ∷ [])
+      Builds (set loads (node key level) (load + 1)) (set lasts (node key level) opens) (opens + 1) new (ps ++ record { key = key; slot = slot } ∷ [])
   unfolding hop end_
   builds_bucket slot at w two_ new whole first next low many few room rises_more is_first two_long number new_is =
       let q : Pair = record { key = key; slot = slot } in
@@ -401,8 +401,8 @@ module _ (loads places : List ℕ) (opens : ℕ) (draft : List ℕ) (ps : List P
         rises = rises_more;
         blank = blank_bucket b.tree tree_ ps q hop (opens + 1) a b.blank;
         counts = counts_more loads ps q level b.counts lev;
-        long = length-set places (node key level) (bucket_place opens) ∙ b.long;
-        ends = subst (λ (p : ℕ). AreLast (set loads (node key level) (load + 1)) (set places (node key level) p) tree_) (place_is ∙ size) (ends_bucket loads places b.tree tree_ ps q level hop (opens + 1) b.is b.counts b.long b.ends lev end_.2 a);
+        long = length-set lasts (node key level) opens ∙ b.long;
+        ends = subst (λ (p : ℕ). AreLast (set loads (node key level) (load + 1)) (set lasts (node key level) p) tree_) (one_less opens) (ends_bucket loads lasts b.tree tree_ ps q level hop (opens + 1) b.is b.counts b.long b.ends lev end_.2 a);
         count = ap (λ (n : ℕ). n + 1) b.count ∙ sym (buckets_more ps q hop end_.1 ∙ one_opened (buckets (pair_keys ps)) (length (reaching (goes key) hop ps)) (len ∙ whole));
         fits = omega (arith, longer, size, room, all);
         padding = rw all both;
@@ -529,7 +529,7 @@ only_then a b c x y = (
 )
 
 -- a tree with no room behind it is the whole draft
-pub builds_all : (loads places : List ℕ) (opens : ℕ) (draft : List ℕ) (ps : List Pair) (most : ℕ) → Builds loads places opens draft ps → most ≡ buckets (pair_keys ps) → length draft ≡ bucket_place most → IsTree draft ps
-builds_all loads places opens draft ps most b is long =
+pub builds_all : (loads lasts : List ℕ) (opens : ℕ) (draft : List ℕ) (ps : List Pair) (most : ℕ) → Builds loads lasts opens draft ps → most ≡ buckets (pair_keys ps) → length draft ≡ bucket_place most → IsTree draft ps
+builds_all loads lasts opens draft ps most b is long =
     let same : length b.tree ≡ length draft = b.is.size ∙ ap bucket_place (sym is) ∙ sym long in
     subst (λ (xs : List ℕ). IsTree xs ps) (sym (b.padding ∙ padded_all (length draft) b.tree same)) b.is

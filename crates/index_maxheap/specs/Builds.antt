@@ -22,21 +22,25 @@ abbrev pub AreLoads : List ℕ → (slots opened : ℕ) → Type 0
 AreLoads loads slots opened = (ps : List Pair) × (length ps ≡ slots) × CountsPairs loads ps
     × (opened ≡ buckets (pair_keys ps))
 
--- the place of the last bucket of each node that has one
+-- where the last bucket of a node lies, by how many come before it
+abbrev pub place_of : List ℕ → ℕ → ℕ
+place_of lasts node = bucket_place (get_or lasts node 0)
+
+-- the last bucket of each node that has one
 abbrev pub AreLast : List ℕ → List ℕ → List ℕ → Type 0
-AreLast loads places tree = (key : ℤ) (level : ℕ) → level ≤ 4
+AreLast loads lasts tree = (key : ℤ) (level : ℕ) → level ≤ 4
     → 0 < get_or loads (node key level) 0 →
-    get_or places (node key level) 0 ≡ numbered_place (number_of tree key (level + (get_or loads (node key level) 0 - 1) / 32))
+    place_of lasts (node key level) ≡ numbered_place (number_of tree key (level + (get_or loads (node key level) 0 - 1) / 32))
 
 -- the draft has the tree of these pairs in front, and zeros after it
-pub record Builds (loads places : List ℕ) (opened : ℕ) (draft : List ℕ) (ps : List Pair) : Type 0 where
+pub record Builds (loads lasts : List ℕ) (opened : ℕ) (draft : List ℕ) (ps : List Pair) : Type 0 where
   pub tree : List ℕ
   pub is : IsTree tree ps
   pub rises : SlotsRise ps
   pub blank : IsBlank tree ps
   pub counts : CountsPairs loads ps
-  pub long : length places ≡ 341
-  pub ends : AreLast loads places tree
+  pub long : length lasts ≡ 341
+  pub ends : AreLast loads lasts tree
   pub count : opened ≡ buckets (pair_keys ps)
   pub fits : length tree ≤ length draft
   pub padding : draft ≡ padded (length draft) tree
@@ -61,15 +65,13 @@ DraftsBucket old new at opened = (two : List ℕ) × (length two ≡ 2) × (u16_
 
 -- ---- nodes
 
--- what is kept where no bytes are told: where last buckets lie, each apart from all others
+-- what is kept where no bytes are told: last buckets are among those that are open, and no two are the same
 pub record IsSafeBuild (nodes : Nodes) (most slot : ℕ) : Type 0 where
   pub light : (i : ℕ) → get_or nodes.loads i 0 ≤ slot
-  pub inside : (i : ℕ) → get_or nodes.places i 0 + 195 ≤ bucket_place nodes.opened
+  pub inside : (i : ℕ) → 0 < get_or nodes.loads i 0 → get_or nodes.lasts i 0 < nodes.opened
   pub under : nodes.opened ≤ most
-  pub behind : (i : ℕ) → 0 < get_or nodes.loads i 0 → 683 ≤ get_or nodes.places i 0
   pub apart : (i j : ℕ) → i ≢ j → 0 < get_or nodes.loads i 0 → 0 < get_or nodes.loads j 0
-      → (get_or nodes.places i 0 + 195 ≤ get_or nodes.places j 0)
-      ⊎ (get_or nodes.places j 0 + 195 ≤ get_or nodes.places i 0)
+      → get_or nodes.lasts i 0 ≢ get_or nodes.lasts j 0
 
 -- and the draft has as many bytes as buckets may come
 abbrev pub FitDraft : Nodes → State → Type 0
@@ -79,9 +81,9 @@ FitDraft nodes state = (most slot : ℕ) × IsSafeBuild nodes most slot
 -- the next bucket of a node lies after all others
 abbrev pub with_bucket : Nodes → ℕ → Nodes
 with_bucket nodes node =
-    record nodes { places = set nodes.places node (bucket_place nodes.opened); opened = nodes.opened + 1 }
+    record nodes { lasts = set nodes.lasts node nodes.opened; opened = nodes.opened + 1 }
 
--- ---- pairs that wait, in groups of four
+-- ---- pairs that wait: of each group of four up to three
 
 -- how many of a node wait: those of its last group, where that is not whole
 abbrev pub waiting : Nodes → ℕ → ℕ
@@ -89,16 +91,28 @@ waiting nodes node = get_or nodes.loads node 0 % 4
 
 -- where in the draft that group belongs
 abbrev pub group_place : Nodes → ℕ → ℕ
-group_place nodes node = get_or nodes.places node 0 + 24 * (get_or nodes.loads node 0 % 32 / 4)
+group_place nodes node = place_of nodes.lasts node + 24 * (get_or nodes.loads node 0 % 32 / 4)
 
--- one pair more of a node waits
+-- a node has one pair more
+pub record IsOneMore (old new : Nodes) (node : ℕ) : Type 0 where
+  pub loads : new.loads ≡ set old.loads node (get_or old.loads node 0 + 1)
+  pub lasts : new.lasts ≡ old.lasts
+  pub opened : new.opened ≡ old.opened
+
+-- that pair waits
 pub record TakesIn (old new : Nodes) (node : ℕ) (q : Pair) : Type 0 where
   pub six : List ℕ
   pub is : IsPairBytes six q
-  pub groups : new.groups ≡ put_at old.groups (24 * node + 6 * waiting old node) six
-  pub loads : new.loads ≡ set old.loads node (get_or old.loads node 0 + 1)
-  pub places : new.places ≡ old.places
-  pub opened : new.opened ≡ old.opened
+  pub more : IsOneMore old new node
+  pub groups : new.groups ≡ put_at old.groups (18 * node + 6 * waiting old node) six
+
+-- with those that wait, that pair is a whole group
+pub record Completes (old new : Nodes) (node : ℕ) (q : Pair) (group : List ℕ) : Type 0 where
+  pub six : List ℕ
+  pub is : IsPairBytes six q
+  pub more : IsOneMore old new node
+  pub groups : new.groups ≡ old.groups
+  pub whole : group ≡ slice_range old.groups (18 * node) (18 * node + 18) ++ six
 
 -- a byte of the draft belongs to one of this many pairs that wait, of a node from one on
 pub record IsAwaited (from : ℕ) (at count : ℕ → ℕ) (x : ℕ) : Type 0 where
@@ -113,7 +127,7 @@ pub record Awaits (from : ℕ) (at count : ℕ → ℕ) (groups draft full : Lis
   pub size : length draft ≡ length full
   pub free : (x : ℕ) → IsAwaited from at count x → get_or draft x 0 ≡ 0
   pub held : (node i : ℕ) → from ≤ node → node < 341 → i < 6 * count node
-      → get_or full (at node + i) 0 ≡ get_or groups (24 * node + i) 0
+      → get_or full (at node + i) 0 ≡ get_or groups (18 * node + i) 0
   pub rest : (x : ℕ) → IsAwaited from at count x ⊎ (get_or draft x 0 ≡ get_or full x 0)
 
 abbrev pub NodesAwait : (from : ℕ) → Nodes → (draft full : List ℕ) → Type 0
@@ -123,4 +137,4 @@ NodesAwait from nodes draft full = Awaits from (group_place nodes) (waiting node
 pub record Gathers (nodes : Nodes) (draft : List ℕ) (ps : List Pair) : Type 0 where
   pub full : List ℕ
   pub awaits : NodesAwait 0 nodes draft full
-  pub builds : Builds nodes.loads nodes.places nodes.opened full ps
+  pub builds : Builds nodes.loads nodes.lasts nodes.opened full ps

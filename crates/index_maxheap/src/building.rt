@@ -15,7 +15,7 @@ ghost use Rattle.afl_base.specs.Keys.{first_keys};
 ghost use Rattle.index_tree.specs.Trees.{IsTreeOf};
 ghost use Rattle.index_tree.specs.TreeFile.{bucket_place};
 
-use crate::groups::{GROUP, GROUP_SIZE, Nodes, PAIR_SIZE, group_place};
+use crate::groups::{GROUP, Nodes, PAIR_SIZE, WAITING_SIZE, group_place};
 use crate::loads::level_with_room;
 use crate::path::node;
 use crate::tree::{BUCKET_SIZE, HEAD_SIZE, NEXT_AT, bucket_place};
@@ -47,7 +47,7 @@ fn spot(load: u16, node: u16, place: u32) -> u32
     requires { place < 2 ^ 25 }
     ensures first { load ≡ 0 → result ≡ 2 * node }
     ensures next { load ≢ 0 → result ≡ place + 192 }
-    ensures low { (size : ℕ) → 683 ≤ size → node ≤ 340 → place + 195 ≤ size → result + 3 ≤ size }
+    ensures low { (size : ℕ) → 683 ≤ size → node ≤ 340 → (load ≢ 0 → place + 195 ≤ size) → result + 3 ≤ size }
 {
     if load == 0 {
         2 * u32::from(node)
@@ -85,7 +85,7 @@ fn build_slot<V: Files>(
     let level = level_with_room(&nodes.loads, key);
     let node = node(key, level);
     let load = nodes.loads[usize::from(node)];
-    let place = nodes.places[usize::from(node)];
+    let place = nodes.place(node);
     if load % 32 == 0 {
         if nodes.opened == most {
             return Ok(());
@@ -95,11 +95,12 @@ fn build_slot<V: Files>(
         nodes.take_in(node, key, slot);
         return Ok(());
     }
-    nodes.take_in(node, key, slot);
     if load % GROUP != GROUP - 1 {
+        nodes.take_in(node, key, slot);
         return Ok(());
     }
-    nodes.write(files, node, group_place(place, load), GROUP_SIZE)?;
+    let group = nodes.complete(node, key, slot);
+    files.draft_write(group_place(place, load), &group)?;
     Ok(())
 }
 
@@ -118,7 +119,7 @@ fn write_waiting<V: Files>(files: &mut V, nodes: &Nodes, node: u16) -> Result<()
     ensures frame { Changes V.state V.lent V.reads V.faults files.old files.new result }
 {
     let load = nodes.loads[usize::from(node)];
-    let place = nodes.places[usize::from(node)];
+    let place = nodes.place(node);
     if load % GROUP == 0 {
         return Ok(());
     }
@@ -135,7 +136,7 @@ fn write_rest<V: Files>(files: &mut V, nodes: &Nodes) -> Result<(), Failed>
         × Gathers nodes.now (draft_in (V.state files.old)).bytes ps }
     ensures written { IsTrue (V.state files.old).tells → (ps : List Pair)
         → Gathers nodes.now (draft_in (V.state files.old)).bytes ps
-        → OnOk result (Builds nodes.now.loads nodes.now.places nodes.now.opened
+        → OnOk result (Builds nodes.now.loads nodes.now.lasts nodes.now.opened
         (draft_in (V.state files.new)).bytes ps) }
     ensures only { OnOk result (HasOtherDraft (V.state files.old) (V.state files.new)) }
     ensures cut { CutKeeps V.cuts V.mends V.state files.old files.new (OnErr result) }
@@ -176,8 +177,8 @@ pub fn build<V: Files>(
     files.draft_write(HEAD_SIZE as u32 - 1, &[1])?;
     let mut nodes = Nodes {
         loads: [0; 341],
-        places: [0; 341],
-        groups: [0; 341 * GROUP_SIZE],
+        lasts: [0; 341],
+        groups: [0; 341 * WAITING_SIZE],
         opened: 0,
     };
     let column = &column;

@@ -100,7 +100,7 @@ returns-clause-tree g c = λ told.
     let told_now : IsTrue now.tells = inv.tells ∙ told in
     let done = c.in_ok-write_rest.ensures in
     let size : length (draft_in new).bytes ≡ bucket_place c.args.most = done.only.1.size ∙ inv.size in
-    tree_of_pairs (draft_in new).bytes f c.args.slots (builds_all nodes.loads nodes.places nodes.opened (draft_in new).bytes (pairs_of f c.args.slots) c.args.most (done.written told_now (pairs_of f c.args.slots) (rw end at (inv.gathers told))) (c.requires.count told ∙ ap buckets (sym (keys_pairs f c.args.slots))) size)
+    tree_of_pairs (draft_in new).bytes f c.args.slots (builds_all nodes.loads nodes.lasts nodes.opened (draft_in new).bytes (pairs_of f c.args.slots) c.args.most (done.written told_now (pairs_of f c.args.slots) (rw end at (inv.gathers told))) (c.requires.count told ∙ ap buckets (sym (keys_pairs f c.args.slots))) size)
 
 pub returns-clause-only : goal.returns-clause-only
 returns-clause-only g c = only_then (g.V.Files.state c.args.files.now) (g.V.Files.state c.loop-slot.files) (g.V.Files.state c.write_rest.new.files) c.loop-slot.invariant.only c.in_ok-write_rest.ensures.only

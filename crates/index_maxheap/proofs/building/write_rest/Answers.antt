@@ -60,4 +60,4 @@ returns-clause-written g c = λ told ps a.
     let now = g.V.Files.state c.loop-node.files in
     let nodes = c.args.nodes.now in
     let end : 341 ≤ c.loop-node.node = omega (arith, c.loop-node-test.false) in
-    subst (λ xs. Builds nodes.loads nodes.places nodes.opened xs ps) (sym (all_written (group_place nodes) (waiting nodes) nodes.groups (draft_in now).bytes a.full c.loop-node.node end (inv.awaits told a.full a.awaits))) a.builds
+    subst (λ xs. Builds nodes.loads nodes.lasts nodes.opened xs ps) (sym (all_written (group_place nodes) (waiting nodes) nodes.groups (draft_in now).bytes a.full c.loop-node.node end (inv.awaits told a.full a.awaits))) a.builds
