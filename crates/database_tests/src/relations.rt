@@ -6,7 +6,7 @@ use afl_base::{FileError, FileId, Files, Kind, SlotNo};
 use afl_sim::PlainFiles;
 use db_model::{Attribute, Attributes, Domain, Ident, Schema, Text, Tuple, Value, row_length};
 use test_steps::{appended, new_file, read_from, size_of};
-use tuple_file::{Tuples, get_tuple};
+use tuple_file::{Span, Tuples, get_tuple};
 
 // Whether the file has rows of the relation, each as it may be.
 fn holds<V: Files>(tuples: &Tuples, files: &mut V) -> Result<bool, FileError>
@@ -106,8 +106,13 @@ fn rewrite<V: Files>(tuples: &Tuples, files: &mut V, key: i64) -> Result<(), Fil
     if !holds(tuples, files)? {
         return Err(FileError::Failed);
     }
+    let all = Span {
+        first: 0,
+        end: tuples.count(files),
+    };
     tuples.rewrite(
         files,
+        &all,
         |row: &[u8]|
             requires { fields_length tuples.now.schema.attributes ≤ length row.now }
         { has_number(&tuples.schema.attributes, row, key) },

@@ -1,23 +1,21 @@
 -- Files that a cut in the middle of a change of rows leaves: a row in part, rows whose keys come into trees, rows that are removed.
-use Rattle.std.proofs.Common.{◌≡◌, ◌≢◌, ◌⊎◌, inl, inr, ℕ, zero, suc, ℤ, ◌+◌, ◌*◌, ◌<◌, ◌≤◌, ◌&&◌, Bool, true, false, List, [], ◌∷◌, ◌++◌, length, map, take, drop, set, get_or, Option, Some, None, if◌then◌else◌, refl, ap, sym, subst, ◌∙◌, arith, IsTrue, length-append}
-use Rattle.std.specs.Prelude.{⊤, option_map, slice_get, unwrap_or}
+use Rattle.std.proofs.Common.{◌≡◌, ◌≢◌, inl, inr, ℕ, zero, suc, ℤ, ◌<◌, ◌≤◌, ◌&&◌, Bool, true, false, List, [], ◌∷◌, ◌++◌, length, map, take, drop, set, get_or, Option, Some, None, if◌then◌else◌, refl, ap, sym, subst, ◌∙◌, arith, IsTrue}
+use Rattle.std.specs.Prelude.{⊤, slice_get, unwrap_or}
 use Rattle.std.specs.List.{AllByRecursion}
 use Rattle.std.specs.Option.{option_map_or}
 use Rattle.std.proofs.lemmas.List.{get_or-set_same}
-use Rattle.afl_base.specs.Files.{File, IsNamed, State, Table, bytes_at, file_at, no_file}
+use Rattle.afl_base.specs.Files.{File, IsNamed, State, bytes_at, no_file}
 use Rattle.afl_base.specs.Frames.{SparesOthers}
 use Rattle.afl_base.proofs.FileLaws.{named_live, place_live}
 use Rattle.afl_base.proofs.FrameLaws.{spares_fewer}
 use Rattle.catalog.proofs.Named.{named_found}
 use Rattle.db_model.specs.declared.schemas.Attribute.{Attribute}
-use Rattle.db_model.specs.declared.schemas.Schema.{Schema}
 use Rattle.db_model.specs.Item.{selects}
-use Rattle.db_model.specs.Catalog.{Index}
 use Rattle.db_model.specs.Cond.{Cond}
-use Rattle.db_model.specs.Database.{Database, Relation, with_relation}
+use Rattle.db_model.specs.Database.{Relation, with_relation}
 use Rattle.db_model.specs.Row.{Row, rows_bytes, rows_of}
 use Rattle.db_model.specs.Sound.{IsSoundDatabase, IsSoundRelation, SuitKind}
-use Rattle.db_model.specs.Step.{first_fall, key_of, keys, removed_row, slots_limit}
+use Rattle.db_model.specs.Step.{key_of, keys, removed_row, slots_limit}
 use Rattle.index_set.specs.declared.info.Access.{Access}
 use Rattle.index_set.specs.declared.info.Access.TheVariants.{Order, Tree, Table as InTable}
 use Rattle.index_set.specs.declared.info.IndexInfo.{IndexInfo}
@@ -28,7 +26,7 @@ use Rattle.index_set.proofs.Inserted.{keys_count}
 use Rattle.index_tree.specs.TreeFile.{NamesOnly}
 use Rattle.padded.proofs.Facts.{some_inside, some_same}
 use Rattle.space_model.specs.Enough.{rows_in}
-use Rattle.space_model.specs.FileNames.{bytes_in_file, bytes_named, file_named, rows_file, tree_file}
+use Rattle.space_model.specs.FileNames.{bytes_in_file, bytes_named, rows_file, tree_file}
 use Rattle.stored.specs.CutTables.{IsCutTable, IsIndexWhile}
 use Rattle.stored.specs.Sound.{IsIndexComplete}
 use Rattle.stored.specs.declared.half.Half.TheVariants.{AddingKey, AddingRow, Nothing}
@@ -40,7 +38,7 @@ use Rattle.session_model.specs.declared.held.Held.{Held}
 use Rattle.session_model.specs.declared.held.Indexed.{Indexed}
 use Rattle.session_model.specs.declared.held.Open.{Open}
 use Rattle.session_model.specs.Frames.{StaysAt, schema_in}
-use Rattle.session_model.specs.Indexed.{index_known, info_of, infos_of}
+use Rattle.session_model.specs.Indexed.{index_known, infos_of}
 use Rattle.session_model.specs.Running.{HasFile, IsRunning}
 use Rattle.session_model.specs.View.{relation_of_rows, view}
 use Rattle.session_model.proofs.CutHeld.{rows_cut, were_keys, were_rows}

@@ -1,12 +1,12 @@
 -- What a cut leaves of one relation, where calls follow one another.
 use Rattle.std.proofs.Common.{◌≡◌, ◌≢◌, ℕ, suc, ◌+◌, ◌*◌, ◌<◌, ◌≤◌, List, [], ◌∷◌, ◌++◌, length, map, get_or, take, drop, set, Option, Ok, Err, true, refl, ap, subst, sym, ◌∙◌, arith, inl, inr, IsTrue}
-use Rattle.std.specs.Prelude.{IsErrAnd, IsErrOf, Result, unwrap_or}
+use Rattle.std.specs.Prelude.{IsErrAnd, IsErrOf, Result}
 use Rattle.std.proofs.Math.Logic.{⊎_elim}
 use Rattle.std.proofs.lemmas.List.{append-nil, drop_all, length-append, take_all}
 use Rattle.afl_base.specs.declared.kind.FileError.{FileError}
 use Rattle.afl_base.specs.declared.kind.FileError.TheVariants.{Failed, Space}
 use Rattle.afl_base.specs.FileErrors.{UnlessFailed}
-use Rattle.afl_base.specs.Files.{File, State, bytes_at, no_file}
+use Rattle.afl_base.specs.Files.{State, bytes_at}
 use Rattle.afl_base.specs.Frames.{Prepares, SparesOthers}
 use Rattle.afl_base.proofs.FrameLaws.{spares_fewer, spares_same, spares_then}
 use Rattle.cursor.proofs.Walking.{row_there}
@@ -32,7 +32,7 @@ use Rattle.session_model.specs.Frames.{StaysAt}
 use Rattle.session_model.proofs.Frames.{bytes_spared, complete_kept, rows_prepared}
 use Rattle.session_model.proofs.Running.{bytes_by}
 use Rattle.session_rows.specs.declared.selecting.Selected.{Selected}
-use Rattle.session_rows.specs.CutRows.{HasRowsAndKeys, AddsPartOfRow, MayAddRow, MayChange, MayMarkRows, MayRemove}
+use Rattle.session_rows.specs.CutRows.{AddsPartOfRow, MayAddRow, MayChange, MayMarkRows, MayRemove}
 use Rattle.session_rows.specs.Marking.{IsSelected, dead, marked}
 use Rattle.session_rows.proofs.Rooms.{exact_kept}
 use Rattle.session_rows.proofs.Marked.{front_removed, marks_next}

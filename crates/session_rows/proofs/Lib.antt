@@ -11,5 +11,6 @@ pub mod Inserts
 pub mod Fronts
 pub mod Marked
 pub mod Removes
+pub mod Spans
 pub mod Refusals
 pub mod Unwanted

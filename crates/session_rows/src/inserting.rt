@@ -32,6 +32,8 @@ use tuple_file::Tuples;
 
 /// Puts a row after the others of a relation: room for it and for its keys is made before any of it
 /// is written. What a cut leaves mends to a database with the row or without it.
+// Not inlined, so that its rows are on the stack of no other command.
+#[inline(never)]
 pub fn insert<V: Files>(
     base: &mut Base<V>,
     values: &Tuple,

@@ -19,7 +19,7 @@ ghost use Rattle.cursor.specs.Remaining.{passes_code};
 ghost use Rattle.tuple_file.specs.Tuples.{HoldsRows, rows, slots as slots_of};
 ghost use Rattle.session_rows.specs.Changes.{ReplacesRows};
 ghost use Rattle.session_rows.specs.CutRows.{MayMarkRows, MayRemove};
-ghost use Rattle.session_rows.specs.Marking.{AreBelow, OfSelected, marked};
+ghost use Rattle.session_rows.specs.Marking.{AreBelow, OfSelected, SelectsWithin, marked};
 ghost use Rattle.session_rows.specs.Wanted.{WantsRemoval};
 
 use crate::selecting::Selected;
@@ -27,7 +27,7 @@ use afl_base::{Failed, FileError, Files, SlotNo};
 use cursor::selects_row;
 use db_model::Few;
 use lvm::Code;
-use tuple_file::Tuples;
+use tuple_file::{Span, Tuples};
 
 /// Removes the rows that were selected: up to 29 are marked one by one, and more are written anew in
 /// one draft.
@@ -64,7 +64,7 @@ pub(crate) fn remove_selected<V: Files>(
     ensures frame { ChangesOrLacks V.state V.lent V.reads V.faults V.lacks files.old files.new result }
 {
     if selected.count > 29 {
-        rewrite_rows(files, tuples, code)?;
+        rewrite_rows(files, tuples, code, &selected.span())?;
     } else {
         mark_slots(files, tuples, &selected.first)?;
     }
@@ -131,14 +131,20 @@ fn mark_rows<V: Files>(
     Ok(())
 }
 
-// Removes the rows that a condition selects, by one draft.
-fn rewrite_rows<V: Files>(files: &mut V, tuples: &Tuples, code: &Code) -> Result<(), FileError>
+// Removes the rows that a condition selects, by one draft. It is asked about those in some slots alone,
+// outside of which it selects none.
+fn rewrite_rows<V: Files>(
+    files: &mut V,
+    tuples: &Tuples,
+    code: &Code,
+    asked: &Span,
+) -> Result<(), FileError>
     requires idle { (V.state files.old).draft ≡ None }
     requires holds { HoldsRows (V.state files.old) tuples.now }
     ensures rows { let attributes = tuples.now.schema.attributes in
         let all = rows (V.state files.old).files tuples.now in
         IsTrue (V.state files.old).tells → OnOk result ((condition : Option Cond)
-        → IsCodeOf attributes condition code.now
+        → IsCodeOf attributes condition code.now → SelectsWithin asked.now attributes condition all
         → rows (V.state files.new).files tuples.now ≡ map (removed_row attributes condition) all) }
     ensures replaces { OnOk result
         (ReplacesRows (V.state files.old) (V.state files.new) tuples.now) }
@@ -147,14 +153,17 @@ fn rewrite_rows<V: Files>(files: &mut V, tuples: &Tuples, code: &Code) -> Result
     ensures need { let size = size_at (V.state files.new).files tuples.now.file in
         OnSpace result (λ need. need ≡ fit size) }
     ensures cut { let attributes = tuples.now.schema.attributes in
+        let all = rows (V.state files.old).files tuples.now in
         IsTrue V.cuts → IsTrue (V.state files.old).tells → IsErrOf result FileError.Failed
         → (condition : Option Cond) → IsCodeOf attributes condition code.now
+        → SelectsWithin asked.now attributes condition all
         → MendsToState V.mends (V.state files.new).store
         (λ after. MayRemove (V.state files.old) after tuples.now condition) }
     ensures frame { ChangesOrLacks V.state V.lent V.reads V.faults V.lacks files.old files.new result }
 {
     tuples.rewrite(
         files,
+        asked,
         |row: &[u8]|
             requires { fields_length tuples.now.schema.attributes ≤ length row.now }
             ensures { let attributes = tuples.entry.now.schema.attributes in

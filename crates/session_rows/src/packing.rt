@@ -27,6 +27,8 @@ use tuple_file::Tuples;
 
 /// Drops the removed rows of a relation. Where no row is removed, the files are left as they are. What
 /// a cut leaves mends to a database with all of the removed rows or with none.
+// Not inlined, so that its rows are on the stack of no other command.
+#[inline(never)]
 pub fn pack<V: Files>(base: &mut Base<V>, relation: &Ident) -> Result<Answer, Failed>
     requires running { Runs V.Files base.old }
     ensures carried { Carries V.Files (command.Pack relation.now) base.old base.new result }

@@ -100,58 +100,59 @@ fn remove_at<V: Files>(
     ensures untouched { OnNothing result (V.state files.new ≡ V.state files.old) }
     ensures frame { Changes V.state V.lent V.reads V.faults files.old files.new result }
 {
-    let code = match Code::compile(condition, &target.tuples.schema, 0) {
-        Ok(code) => code,
-        Err(refusal) => return Ok(Answer::Refused(refusal)),
+    let schema = &target.tuples.schema;
+    let mut cursor = SelectCursor {
+        tuples: target.tuples.copy(),
+        code: Code::none(),
+        candidates: none_begun(),
     };
-    if let Some(cursor) = least_reader(opens, &target.tuples.schema.name) {
-        return Ok(Answer::Refused(Refusal::InUse { cursor }));
+    if let Err(refusal) = cursor.code.compile(condition, schema, 0) {
+        return Ok(Answer::Refused(refusal));
+    }
+    if let Some(reader) = least_reader(opens, &schema.name) {
+        return Ok(Answer::Refused(Refusal::InUse { cursor: reader }));
     }
     let indexes = indexes_of(&held.indexes, target.slot, target.tuples);
-    let answer = remove_rows(files, tables, target.tuples, &indexes, code)?;
+    let answer = remove_rows(files, tables, target.tuples, &indexes, &mut cursor)?;
     Ok(answer)
 }
 
-// Removes the rows of a relation with these indexes that a condition selects.
+// Removes the rows of a relation with these indexes that a cursor selects, which has not begun.
 fn remove_rows<V: Files>(
     files: &mut V,
     tables: &HashTables,
     tuples: &Tuples,
     indexes: &Indexes,
-    code: Code,
+    cursor: &mut SelectCursor,
 ) -> Result<Answer, Failed>
+    requires of { cursor.old.tuples ≡ tuples.now }
     requires ready { MaySelect (V.state files.old) tuples.now indexes.now }
     ensures removed { let attributes = tuples.now.schema.attributes in
         let old = rows (V.state files.old).files tuples.now in
         let new = rows (V.state files.new).files tuples.now in
         IsTrue (V.state files.old).tells → IfOk result (λ answer.
-        OfCode code (V.state files.old) tables.now tuples.now indexes.now (λ condition.
+        OfCode cursor.old.code (V.state files.old) tables.now tuples.now indexes.now (λ condition.
         IsRemoval attributes condition old new answer)) }
     ensures replaces { OnOk result
         (ReplacesRows (V.state files.old) (V.state files.new) tuples.now) }
     ensures wants { let asks = asks_few (V.asks files.new) (V.state files.new).files in
         IsTrue (V.state files.old).tells → OnNoSpace result (λ need.
-        OfCode code (V.state files.old) tables.now tuples.now indexes.now (λ condition.
+        OfCode cursor.old.code (V.state files.old) tables.now tuples.now indexes.now (λ condition.
         WantsRemovalBy asks (V.state files.new) tuples.now condition need)) }
     ensures lacks { OnNoSpace result (λ need. V.lacks files.new need) }
     ensures spares { let old = V.state files.old in IsTrue old.tells → OnDone result
-        (OfCode code old tables.now tuples.now indexes.now (λ condition.
+        (OfCode cursor.old.code old tables.now tuples.now indexes.now (λ condition.
         WantsNothing (WantsRemovalBy (V.asks files.old) old tuples.now condition)
         → TakesNoPage V.is_free old.store (V.state files.new).store)) }
     ensures cut { IsTrue V.cuts → IsTrue (V.state files.old).tells → OnErr result
-        (OfCode code (V.state files.old) tables.now tuples.now indexes.now (λ condition.
+        (OfCode cursor.old.code (V.state files.old) tables.now tuples.now indexes.now (λ condition.
         MendsToState V.mends (V.state files.new).store
         (λ after. MayRemove (V.state files.old) after tuples.now condition))) }
     ensures untouched { OnNothing result (V.state files.new ≡ V.state files.old) }
     ensures frame { Changes V.state V.lent V.reads V.faults files.old files.new result }
 {
-    let mut cursor = SelectCursor {
-        tuples: tuples.copy(),
-        code,
-        candidates: none_begun(),
-    };
     cursor.begin(files, tables, indexes)?;
-    let selected = select_slots(files, tables, &mut cursor)?;
+    let selected = select_slots(files, tables, cursor)?;
     match remove_selected(files, tuples, &cursor.code, &selected) {
         Ok(()) => Ok(Answer::Removed(selected.count)),
         Err(FileError::Space { need }) => Ok(Answer::NoSpace(need)),

@@ -1,5 +1,5 @@
 -- The rows of a relation in a file, slot by slot.
-use Rattle.std.specs.Prelude.{◌≡◌, ℕ, ◌+◌, ◌*◌, ◌<◌, ◌≤◌, Bool, true, not, List, [], ◌∷◌, ◌++◌, filter, length, IsSome, IsTrue, MatchBool, slice_range, ⊤}
+use Rattle.std.specs.Prelude.{◌≡◌, ℕ, ◌+◌, ◌*◌, ◌<◌, ◌≤◌, Bool, true, false, not, ◌&&◌, nat_le, nat_lt, List, [], ◌∷◌, ◌++◌, filter, length, IsSome, IsTrue, MatchBool, slice_range, ⊤}
 use Rattle.afl_base.specs.declared.kind.Kind.TheVariants.{Doubling}
 use Rattle.afl_base.specs.Fields.{put_at}
 use Rattle.afl_base.specs.Files.{Becomes, IsLive, State, Table, bytes_at, draft_in, file_at, size_at}
@@ -7,6 +7,7 @@ use Rattle.db_model.specs.declared.schemas.Attribute.{Attribute}
 use Rattle.db_model.specs.declared.values.Value.{Value}
 use Rattle.db_model.specs.Row.{Row, fields_length, row_at, row_bytes, row_length, rows_bytes, rows_of, slots_in_bytes, tuple_of}
 use Rattle.db_model.specs.Step.{slots_limit}
+use Rattle.tuple_file.specs.declared.span.Span.{Span}
 use Rattle.tuple_file.specs.declared.tuples.Tuples.{Tuples}
 
 -- a relation's file is there and doubles, and a row has at most 128 bytes
@@ -84,11 +85,23 @@ IsAnswered answers old new = MatchBool old.live ((removed : Bool) × answers old
 abbrev pub OfBytes : List Attribute → (List ℕ → Bool → Type 0) → List Value → Bool → Type 0
 OfBytes attributes answers tuple answer = (bytes : List ℕ) × (tuple_of attributes bytes ≡ tuple) × answers bytes answer
 
--- so is each row at its place, and no slot comes or goes
-abbrev pub AreAnswered : (List Value → Bool → Type 0) → List Row → List Row → Type 0
-AreAnswered answers [] [] = ⊤
-AreAnswered answers (old ∷ olds) (new ∷ news) = IsAnswered answers old new × AreAnswered answers olds news
-AreAnswered answers _ _ = ⊥
+-- where nothing is asked the answer is that the row stays
+abbrev pub OfAsked : Bool → List Attribute → (List ℕ → Bool → Type 0) → List Value → Bool → Type 0
+OfAsked asks attributes answers tuple answer = MatchBool asks (OfBytes attributes answers tuple answer) (answer ≡ false)
+
+-- a slot is one of these
+abbrev pub is_in : Span → ℕ → Bool
+is_in span slot = nat_le span.first slot && nat_lt slot span.end
+
+-- of the row in a slot something is asked where the slot is one of these
+abbrev pub OfSlots : Span → List Attribute → (List ℕ → Bool → Type 0) → ℕ → List Value → Bool → Type 0
+OfSlots asked attributes answers slot = OfAsked (is_in asked slot) attributes answers
+
+-- each row at its place, from this slot on, is answered so, and no slot comes or goes
+abbrev pub AreAnswered : (ℕ → List Value → Bool → Type 0) → ℕ → List Row → List Row → Type 0
+AreAnswered answers slot [] [] = ⊤
+AreAnswered answers slot (old ∷ olds) (new ∷ news) = IsAnswered (answers slot) old new × AreAnswered answers (slot + 1) olds news
+AreAnswered answers slot _ _ = ⊥
 
 -- no more than the draft has changed, and it is of the same name and length
 pub record OnlyDraftChanges (old new : State) : Type 0 where

@@ -13,22 +13,25 @@ ghost use Rattle.db_model.specs.Row.{AllRowsSuit, AllSuit, Row, row_bytes, row_l
 ghost use Rattle.tuple_file.specs.CutRows.{HasWholeRows};
 ghost use Rattle.tuple_file.specs.Drafts.{ReachesSlot, IsZeroDraft, PutsRow};
 ghost use Rattle.tuple_file.specs.Gathered.{IsFree, TakesRows, end_of_waiting, gathered};
-ghost use Rattle.tuple_file.specs.Tuples.{AreAnswered, HoldsRows, IsAnswered, IsLiveTuple, IsRowFile, OfBytes, OnlyDraftChanges, OnlyRowsChange, live_rows, row, rows, slots};
+ghost use Rattle.tuple_file.specs.Tuples.{AreAnswered, HoldsRows, IsAnswered, IsLiveTuple, IsRowFile, OfAsked, OfSlots, OnlyDraftChanges, OnlyRowsChange, live_rows, row, rows, slots};
 
 use crate::rows::{is_live, values_suit};
+use crate::span::Span;
 use crate::tuples::{ROW_SIZE, Tuples};
 use crate::waiting::Waiting;
 use afl_base::{Failed, FileError, Files};
 use db_model::{Attributes, row_length};
 
 impl Tuples {
-    /// Asks `removed` once about the bytes of each live row, and removes those for which it answers true.
-    /// Their fields stay, and so do all other rows and all slots. It asks nothing about a removed row.
+    /// Asks `removed` once about the bytes of each live row in the slots `asked`, and removes those for
+    /// which it answers true. Their fields stay, and so do all other rows and all slots. It asks nothing
+    /// about a removed row.
     ///
     /// The file is replaced by a draft, for which `Space` has the `need`.
     pub fn rewrite<V: Files, F: Fn(&[u8]) -> bool>(
         &self,
         files: &mut V,
+        asked: &Span,
         removed: F,
     ) -> Result<(), FileError>
         requires holds { HoldsRows (V.state files.old) self.now }
@@ -40,7 +43,7 @@ impl Tuples {
             → IsLiveTuple (V.state files.old).files self.now (tuple_of attributes bytes.now))
             → F.pre removed bytes }
         ensures rows { IsTrue (V.state files.old).tells
-            → OnOk result (AreAnswered (OfBytes self.now.schema.attributes (FnReturnsAt F.Fn removed))
+            → OnOk result (AreAnswered (OfSlots asked.now self.now.schema.attributes (FnReturnsAt F.Fn removed)) 0
             (rows (V.state files.old).files self.now) (rows (V.state files.new).files self.now)) }
         ensures suit { IsTrue (V.state files.old).tells
             → OnOk result (AllRowsSuit self.now.schema.attributes
@@ -54,7 +57,7 @@ impl Tuples {
         ensures kept { OnSpace result (λ _. Keeps (V.state files.old) (V.state files.new)) }
         ensures cut { CutKeepsOrLeaves V.cuts V.mends V.state files.old files.new (WhereFailed result)
             (λ after. OnlyRowsChange (V.state files.old) after self.now
-            × AreAnswered (OfBytes self.now.schema.attributes (FnReturnsAt F.Fn removed))
+            × AreAnswered (OfSlots asked.now self.now.schema.attributes (FnReturnsAt F.Fn removed)) 0
             (rows (V.state files.old).files self.now) (rows after.files self.now)
             × AllRowsSuit self.now.schema.attributes (rows after.files self.now)
             × HasWholeRows after self.now) }
@@ -63,7 +66,7 @@ impl Tuples {
         let slots = self.count(files);
         let size = files.size(self.file);
         self.begin(files, size)?;
-        self.draft_answered(files, slots, &removed)?;
+        self.draft_answered(files, slots, asked, &removed)?;
         self.commit(files)?;
         Ok(())
     }
@@ -73,6 +76,7 @@ impl Tuples {
         &self,
         files: &mut V,
         count: u16,
+        asked: &Span,
         removed: &F,
     ) -> Result<(), Failed>
         requires holds { HoldsRows (V.state files.old) self.now }
@@ -91,7 +95,7 @@ impl Tuples {
             → IsZeroDraft (V.state files.old) (size_at (V.state files.old).files self.now.file) }
         ensures rows { IsTrue (V.state files.old).tells
             → OnOk result ((news : List Row)
-            × AreAnswered (OfBytes self.now.schema.attributes (FnReturnsAt F.Fn removed.now))
+            × AreAnswered (OfSlots asked.now self.now.schema.attributes (FnReturnsAt F.Fn removed.now)) 0
             (rows (V.state files.old).files self.now) news
             × AllRowsSuit self.now.schema.attributes news
             × ((draft_in (V.state files.new)).bytes ≡ rows_bytes self.now.schema.attributes news)) }
@@ -103,7 +107,7 @@ impl Tuples {
         let row = &mut bytes[..row_length(&self.schema.attributes)];
         let mut waiting = Waiting::new();
         for slot in 0..count {
-            self.draft_answer(files, slot, removed, row, &mut waiting)?;
+            self.draft_answer(files, slot, asked, removed, row, &mut waiting)?;
         }
         waiting.flush(files)?;
         Ok(())
@@ -115,6 +119,7 @@ impl Tuples {
         &self,
         files: &mut V,
         slot: u16,
+        asked: &Span,
         removed: &F,
         bytes: &mut [u8],
         waiting: &mut Waiting,
@@ -133,7 +138,7 @@ impl Tuples {
         requires behind { end_of_waiting waiting.old ≡ row_length self.now.schema.attributes * slot }
         ensures row { IsTrue (V.state files.old).tells
             → OnOk result ((new : Row)
-            × IsAnswered (OfBytes self.now.schema.attributes (FnReturnsAt F.Fn removed.now))
+            × IsAnswered (OfSlots asked.now self.now.schema.attributes (FnReturnsAt F.Fn removed.now) slot)
             (row (V.state files.old).files self.now slot) new
             × AllSuit self.now.schema.attributes new.tuple
             × PutsRow (gathered (V.state files.old) waiting.old) (gathered (V.state files.new) waiting.new)
@@ -148,7 +153,7 @@ impl Tuples {
         ensures frame { Changes V.state V.lent V.reads V.faults files.old files.new result }
     {
         self.read(files, slot, bytes)?;
-        answer(&self.schema.attributes, bytes, removed);
+        answer(&self.schema.attributes, asked.has(slot), bytes, removed);
         waiting.put(files, bytes)?;
         Ok(())
     }
@@ -347,19 +352,22 @@ impl Tuples {
     }
 }
 
-// Marks the bytes of a live row as removed, if `removed` answers so about it.
-fn answer<F: Fn(&[u8]) -> bool>(attributes: &Attributes, row: &mut [u8], removed: &F)
+// Marks the bytes of a live row as removed, if it is to be asked about and `removed` answers so.
+fn answer<F: Fn(&[u8]) -> bool>(attributes: &Attributes, asks: bool, row: &mut [u8], removed: &F)
     requires size { length row.old ≡ row_length attributes.now }
     requires callable { (shown : _) → IsTrue (row_of attributes.now row.old).live
         → shown.now ≡ row.old → AllSuit attributes.now (tuple_of attributes.now row.old)
         → F.pre removed.now shown }
     ensures answered { row_bytes attributes.now (row_of attributes.now row.old) ≡ row.old → (new : Row)
-        × IsAnswered (OfBytes attributes.now (FnReturnsAt F.Fn removed.now)) (row_of attributes.now row.old) new
+        × IsAnswered (OfAsked asks attributes.now (FnReturnsAt F.Fn removed.now)) (row_of attributes.now row.old) new
         × AllSuit attributes.now new.tuple × (row.new ≡ row_bytes attributes.now new) }
     ensures size { length row.new ≡ length row.old }
 {
     values_suit(attributes, row);
     if !is_live(row) {
+        return;
+    }
+    if !asks {
         return;
     }
     if answer_about(row, removed) {

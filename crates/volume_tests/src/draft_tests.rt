@@ -7,6 +7,7 @@ use crate::mounted::{SIZE, erased, mounted, named};
 use crate::rows::{make_short_rows, short_rows};
 use afl_base::{FileError, Files, Name};
 use afl_sim::CutFlash;
+use tuple_file::Span;
 
 // What is done with the rows of a relation.
 #[derive(Clone, Copy)]
@@ -37,7 +38,11 @@ fn remove_odd<V: Files>(files: &mut V, name: Name) -> Result<bool, FileError>
     if !tuples.valid(files, 2)? {
         return Ok(false);
     }
-    tuples.rewrite(files, |row: &[u8]| match row.first() {
+    let all = Span {
+        first: 0,
+        end: tuples.count(files),
+    };
+    tuples.rewrite(files, &all, |row: &[u8]| match row.first() {
         Some(low) => *low % 2 == 1,
         None => false,
     })?;

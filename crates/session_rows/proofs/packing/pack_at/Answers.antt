@@ -1,4 +1,4 @@
-use Rattle.std.proofs.Common.{◌≡◌, ℕ, List, length, arith, ap, refl, subst, sym, ◌∙◌, ◌≢◌, inr}
+use Rattle.std.proofs.Common.{◌≡◌, ℕ, List, arith, ap, refl, subst, sym, ◌∙◌, ◌≢◌, inr}
 use Rattle.afl_base.specs.declared.kind.FileError.TheVariants.{Space, Failed as FileFailed}
 use Rattle.afl_base.proofs.FrameLaws.{becomes_spares, spares_fewer}
 use Rattle.index_set.specs.declared.info.IndexInfo.{IndexInfo}

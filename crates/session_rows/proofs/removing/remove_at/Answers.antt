@@ -19,7 +19,7 @@ returns-in-Err-clause-changed g c = λ told.
 
 pub returns-in-Some-clause-changed : goal.returns-in-Some-clause-changed
 returns-in-Some-clause-changed g c = λ told. (
-  is_read (condition_of c.args.condition.now) (g.V.Files.state c.args.files.now).files c.args.held.now c.args.opens.now c.args.target.now.slot c.args.target.now.tuples.now c.in-Some.cursor c.in-Ok.ensures.accepted
+  is_read (condition_of c.args.condition.now) (g.V.Files.state c.args.files.now).files c.args.held.now c.args.opens.now c.args.target.now.slot c.args.target.now.tuples.now c.in-Some.reader c.in_default.ensures.accepted
       (sym (c.least_reader.ensures (g.V.Files.state c.args.files.now).files) ∙ c.in-Some.is),
   refl,
 )
@@ -43,6 +43,7 @@ remove_rows-requires g c =
     let e = sym c.indexes_of-indexes.ensures in
     let n = slots old.files t in
     record {
+      of = c.copy.ensures;
       ready = record {
         idle = running.idle;
         holds = (relation_there old tables held opens running c.args.target.now.slot t c.requires.there).holds;
@@ -59,8 +60,8 @@ returns-clause-changed g c = λ told.
     let tree = condition_of c.args.condition.now in
     let complete = subst (λ (l : List IndexInfo). AreIndexesOf old c.args.tables.now (rows old.files t) l) (sym c.indexes_of-indexes.ensures)
     (are_indexes old c.args.tables.now c.args.held.now c.args.opens.now c.requires.running c.args.target.now.slot t c.requires.there told) in
-    removal tree old.files c.args.held.now c.args.opens.now c.args.target.now.slot t new.files c.in_ok-answer.answer c.in-Ok.ensures.accepted (sym (c.least_reader.ensures (g.V.Files.state c.args.files.now).files) ∙ c.in_default.is)
-    (c.in_ok-answer.ensures.removed told tree c.in-Ok.ensures.code complete)
+    removal tree old.files c.args.held.now c.args.opens.now c.args.target.now.slot t new.files c.in_ok-answer.answer c.in_default.ensures.accepted (sym (c.least_reader.ensures (g.V.Files.state c.args.files.now).files) ∙ c.in_default-least_reader.is)
+    (c.in_ok-answer.ensures.removed told tree c.in_default.ensures.code complete)
 
 pub returns-clause-goes_on : goal.returns-clause-goes_on
 returns-clause-goes_on g c =
@@ -73,11 +74,11 @@ returns-clause-goes_on g c =
     let tree = condition_of c.args.condition.now in
     let h = c.in_ok-answer.ensures in
     goes_on old new tables tables held opens c.args.target.now.slot t c.requires.running
-    (rows_change old new tables held opens c.args.target.now.slot t c.requires.running c.requires.there h.replaces.others h.replaces.holds h.replaces.count (sym (c.least_reader.ensures old.files) ∙ c.in_default.is)
+    (rows_change old new tables held opens c.args.target.now.slot t c.requires.running c.requires.there h.replaces.others h.replaces.holds h.replaces.count (sym (c.least_reader.ensures old.files) ∙ c.in_default-least_reader.is)
     (λ told place.
     let complete = subst (λ (l : List IndexInfo). AreIndexesOf old tables (rows old.files t) l) (sym c.indexes_of-indexes.ensures)
     (are_indexes old tables held opens c.requires.running c.args.target.now.slot t c.requires.there told) in
-    removal_keys t.schema.attributes tree (rows old.files t) (rows new.files t) c.in_ok-answer.answer (h.removed told tree c.in-Ok.ensures.code complete) place))
+    removal_keys t.schema.attributes tree (rows old.files t) (rows new.files t) c.in_ok-answer.answer (h.removed told tree c.in_default.ensures.code complete) place))
 
 pub returns-clause-wants : goal.returns-clause-wants
 returns-clause-wants g c = λ told.
@@ -86,13 +87,13 @@ returns-clause-wants g c = λ told.
     let tree = condition_of c.args.condition.now in
     let complete = subst (λ (l : List IndexInfo). AreIndexesOf old c.args.tables.now (rows old.files t) l) (sym c.indexes_of-indexes.ensures)
     (are_indexes old c.args.tables.now c.args.held.now c.args.opens.now c.requires.running c.args.target.now.slot t c.requires.there told) in
-    no_space c.in_ok-answer.answer _ _ (λ need h. h tree c.in-Ok.ensures.code complete) (c.in_ok-answer.ensures.wants told)
+    no_space c.in_ok-answer.answer _ _ (λ need h. h tree c.in_default.ensures.code complete) (c.in_ok-answer.ensures.wants told)
 
 pub returns-in_err-answer-clause-accepted : goal.returns-in_err-answer-clause-accepted
 returns-in_err-answer-clause-accepted g c =
     let old = g.V.Files.state c.args.files.now in
-    on_err c.from_residual.result (may_remove (condition_of c.args.condition.now) old.files c.args.held.now c.args.opens.now c.args.target.now.slot c.args.target.now.tuples.now c.in-Ok.ensures.accepted
-    (sym (c.least_reader.ensures old.files) ∙ c.in_default.is))
+    on_err c.from_residual.result (may_remove (condition_of c.args.condition.now) old.files c.args.held.now c.args.opens.now c.args.target.now.slot c.args.target.now.tuples.now c.in_default.ensures.accepted
+    (sym (c.least_reader.ensures old.files) ∙ c.in_default-least_reader.is))
 
 pub returns-in_err-answer-clause-cut : goal.returns-in_err-answer-clause-cut
 returns-in_err-answer-clause-cut g c = λ cuts told.
@@ -100,7 +101,7 @@ returns-in_err-answer-clause-cut g c = λ cuts told.
     let t = c.args.target.now.tuples.now in
     let complete = subst (λ (l : List IndexInfo). AreIndexesOf old c.args.tables.now (rows old.files t) l) (sym c.indexes_of-indexes.ensures)
     (are_indexes old c.args.tables.now c.args.held.now c.args.opens.now c.requires.running c.args.target.now.slot t c.requires.there told) in
-    on_err c.from_residual.result (c.in_err-answer.ensures.cut cuts told (condition_of c.args.condition.now) c.in-Ok.ensures.code complete)
+    on_err c.from_residual.result (c.in_err-answer.ensures.cut cuts told (condition_of c.args.condition.now) c.in_default.ensures.code complete)
 
 pub returns-clause-spares : goal.returns-clause-spares
 returns-clause-spares g c = λ told never.
@@ -108,4 +109,4 @@ returns-clause-spares g c = λ told never.
     let t = c.args.target.now.tuples.now in
     let complete = subst (λ (l : List IndexInfo). AreIndexesOf old c.args.tables.now (rows old.files t) l) (sym c.indexes_of-indexes.ensures)
     (are_indexes old c.args.tables.now c.args.held.now c.args.opens.now c.requires.running c.args.target.now.slot t c.requires.there told) in
-    on_done c.in_ok-answer.answer _ _ (λ spares. spares (condition_of c.args.condition.now) c.in-Ok.ensures.code complete never) (c.in_ok-answer.ensures.spares told)
+    on_done c.in_ok-answer.answer _ _ (λ spares. spares (condition_of c.args.condition.now) c.in_default.ensures.code complete never) (c.in_ok-answer.ensures.spares told)

@@ -28,9 +28,9 @@ returns-in-Ok-clause-removed g c = λ told condition code indexes.
     let t = c.args.tuples.now in
     let begun = c.in_ok-begin.ensures in
     let all = rows old.files t in
-    let is = is_selected old mid c.args.tables.now t c.copy.result c.args.indexes.now c.args.code c.begin.new.self c.in_ok-selected.selected c.copy.ensures begun.frame.same begun.begun.tuples
+    let is = is_selected old mid c.args.tables.now t c.args.cursor.now.tuples c.args.indexes.now c.args.cursor.now.code c.begin.new.self c.in_ok-selected.selected c.requires.of begun.frame.same begun.begun.tuples
     (λ told condition code indexes. (begun.begins told condition code indexes).slots_left) begun.fits c.in_ok-selected.ensures.selected told condition code indexes in (
-      is_removed old late new t c.args.code c.select_slots.new.cursor.code c.in_ok-selected.selected (c.in_ok-selected.ensures.frame.same ∙ begun.frame.same) (c.in_ok-selected.ensures.code ∙ begun.begun.code)
+      is_removed old late new t c.args.cursor.now.code c.select_slots.new.cursor.code c.in_ok-selected.selected (c.in_ok-selected.ensures.frame.same ∙ begun.frame.same) (c.in_ok-selected.ensures.code ∙ begun.begun.code)
           c.in-Ok.ensures.rows told condition code is,
       is.count ∙ counted t.schema.attributes condition all,
     )
@@ -44,7 +44,7 @@ returns-in-Err-Space-clause-wants g c = λ told condition code indexes.
     let t = c.args.tuples.now in
     let begun = c.in_ok-begin.ensures in
     let all = rows old.files t in
-    let is = is_selected old mid c.args.tables.now t c.copy.result c.args.indexes.now c.args.code c.begin.new.self c.in_ok-selected.selected c.copy.ensures begun.frame.same begun.begun.tuples
+    let is = is_selected old mid c.args.tables.now t c.args.cursor.now.tuples c.args.indexes.now c.args.cursor.now.code c.begin.new.self c.in_ok-selected.selected c.requires.of begun.frame.same begun.begun.tuples
     (λ told condition code indexes. (begun.begins told condition code indexes).slots_left) begun.fits c.in_ok-selected.ensures.selected told condition code indexes in
     let same = c.in_ok-selected.ensures.frame.same ∙ begun.frame.same in
     let kept : rows new.files t ≡ all =
@@ -89,7 +89,7 @@ returns-in-Err-Failed-clause-cut g c = λ cuts told condition code indexes.
     let mid = g.V.Files.state c.begin.new.files in
     let t = c.args.tuples.now in
     let begun = c.in_ok-begin.ensures in
-    let is = is_selected old mid c.args.tables.now t c.copy.result c.args.indexes.now c.args.code c.begin.new.self c.in_ok-selected.selected c.copy.ensures begun.frame.same begun.begun.tuples
+    let is = is_selected old mid c.args.tables.now t c.args.cursor.now.tuples c.args.indexes.now c.args.cursor.now.code c.begin.new.self c.in_ok-selected.selected c.requires.of begun.frame.same begun.begun.tuples
     (λ told condition code indexes. (begun.begins told condition code indexes).slots_left) begun.fits c.in_ok-selected.ensures.selected told condition code indexes in
     let same = c.in_ok-selected.ensures.frame.same ∙ begun.frame.same in
     let coded = c.in_ok-selected.ensures.code ∙ begun.begun.code in
@@ -107,7 +107,7 @@ returns-in-Ok-clause-spares g c = λ told condition code indexes never.
     let size = size_at old.files t.file in
     let begun = c.in_ok-begin.ensures in
     let all = rows old.files t in
-    let is = is_selected old (g.V.Files.state c.begin.new.files) c.args.tables.now t c.copy.result c.args.indexes.now c.args.code c.begin.new.self s c.copy.ensures begun.frame.same begun.begun.tuples
+    let is = is_selected old (g.V.Files.state c.begin.new.files) c.args.tables.now t c.args.cursor.now.tuples c.args.indexes.now c.args.cursor.now.code c.begin.new.self s c.requires.of begun.frame.same begun.begun.tuples
     (λ told condition code indexes. (begun.begins told condition code indexes).slots_left) begun.fits c.in_ok-selected.ensures.selected told condition code indexes in
     let same = c.in_ok-selected.ensures.frame.same ∙ begun.frame.same in
     (rw same at c.in-Ok.ensures.spares) told (λ need wanted. never need

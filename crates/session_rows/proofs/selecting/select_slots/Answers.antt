@@ -39,10 +39,11 @@ slots-preserved g c =
       slots = advances.slots ∙ inv.slots;
       row = λ some. h.size ∙ inv.row some;
       few = omega (arith, inv.few, order, from, c.add.ensures.count);
+      ends = omega (arith, from, c.add.ensures.end);
       firsts = search rules;
       may_read = search rules;
       below = c.add.ensures.below c0.candidates.slots inv.below (omega (arith, low, inv.slots));
       fits = λ told f. (yields told (inv.fits told f)).fits;
-      front = λ told f. c.add.ensures.front (slots_to_answer c0 (rows s0.files c0.tuples)) (slots_to_answer c2 (rows s0.files c0.tuples))
+      front = λ told f. c.add.ensures.front (slots_to_answer c0 (rows s0.files c0.tuples)) (slots_to_answer c2 (rows s0.files c0.tuples)) (omega (arith, inv.ends, order))
           (subst (λ left. IsMarkedFront c.slots.selected (slots_to_answer c0 (rows s0.files c0.tuples)) left) (yields told (inv.fits told f)).slot (inv.front told f));
     }

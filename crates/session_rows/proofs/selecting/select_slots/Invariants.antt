@@ -17,6 +17,7 @@ invariant-slots g l = record {
   slots : l.cursor.candidates.slots ≡ l.fn.cursor.candidates.slots;
   row : 0 < l.fn.cursor.candidates.slots → length l.row ≡ row_length l.fn.cursor.tuples.schema.attributes;
   few : l.selected.count ≤ l.cursor.candidates.from;
+  ends : l.selected.end ≤ l.cursor.candidates.from;
   firsts : length l.selected.first ≤ l.selected.count;
   may_read : MayRead (g.V.Files.state l.fn.files) l.cursor.tuples l.cursor.candidates;
   below : AreBelow l.fn.cursor.candidates.slots l.selected.first;

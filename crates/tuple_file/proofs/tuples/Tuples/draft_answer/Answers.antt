@@ -14,7 +14,7 @@ returns-clause-row g c told =
     let bytes = row_slot_bytes state.files c.args.self.now c.args.slot in
     let read : c.read.new.into ≡ bytes = c.in_ok-read.ensures.bytes told in
     let written : row_bytes attributes (row_of attributes bytes) ≡ bytes = written_slot state c.args.self.now c.args.slot c.requires.holds told c.requires.slot in
-    let said = (rw read at c.answer.ensures.answered) written in (
+    let said = (rw c.has.ensures at (rw read at c.answer.ensures.answered)) written in (
       said.0,
       said.1,
       said.2,

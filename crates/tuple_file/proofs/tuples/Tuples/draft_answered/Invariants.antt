@@ -3,7 +3,7 @@ use Rattle.std.specs.Fn.{FnReturnsAt}
 use Rattle.afl_base.specs.Files.{bytes_at}
 use Rattle.db_model.specs.Row.{row_length}
 use Rattle.tuple_file.specs.Gathered.{IsFree, end_of_waiting, gathered}
-use Rattle.tuple_file.specs.Tuples.{OfBytes, OnlyDraftChanges}
+use Rattle.tuple_file.specs.Tuples.{OfSlots, OnlyDraftChanges}
 use Rattle.tuple_file.proofs.Answered.{Rewritten}
 use Rattle.tuple_file.proofs.Written.{first_rows}
 use Rattle.tuple_file.proofs.tuples.Tuples.draft_answered.Given as goal
@@ -22,5 +22,5 @@ invariant-loop-slot g l =
       behind : end_of_waiting l.waiting ≡ row_length attributes * l.slot;
       free : IsTrue (g.V.Files.state l.fn.files).tells → IsFree (g.V.Files.state l.files) l.waiting;
       rewritten : IsTrue (g.V.Files.state l.fn.files).tells →
-          Rewritten (OfBytes attributes (FnReturnsAt g.F.Fn l.fn.removed)) attributes (length bytes) (first_rows attributes bytes l.slot) (gathered (g.V.Files.state l.files) l.waiting);
+          Rewritten (OfSlots l.fn.asked attributes (FnReturnsAt g.F.Fn l.fn.removed)) attributes (length bytes) (first_rows attributes bytes l.slot) (gathered (g.V.Files.state l.files) l.waiting);
     }
