@@ -7,6 +7,7 @@ pub mod Joins
 pub mod Waiting
 pub mod Walking
 pub mod Scanned
+pub mod Bits
 pub mod Blocks
 pub mod BlockSteps
 pub mod BlockPairs

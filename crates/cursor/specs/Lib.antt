@@ -1,3 +1,4 @@
 pub mod Remaining
 pub mod Pairs
+pub mod Marks
 pub mod Blocks

@@ -9,9 +9,10 @@ ghost use Rattle.db_model.specs.Row.{Row, no_row};
 ghost use Rattle.tuple_file.specs.Column.{IsNumber};
 ghost use Rattle.tuple_file.specs.Tuples.{HoldsRows, rows, slots};
 ghost use Rattle.cursor.specs.Pairs.{HasLive, MayReadPairs, join_cost_ahead};
-ghost use Rattle.cursor.specs.Blocks.{AreMarked, BeginsAt, FindsSlot, HasMet, HoldsLefts, IsBlockFor, IsBlockOf, IsSameBlock, LiesBetween, MayReadBy, WasRead, cost_by_block, mark_of, number_held, number_of_row, number_of_value};
+ghost use Rattle.cursor.specs.Blocks.{AreMarked, BeginsAt, FindsSlot, HasMet, HoldsLefts, IsBlockFor, IsBlockOf, IsSameBlock, LiesBetween, MayReadBy, WasRead, cost_by_block, number_held, number_of_row, number_of_value};
 
 use crate::join::JoinCursor;
+use crate::marks::Marks;
 use afl_base::{Failed, Files, SlotNo};
 use db_model::{Domain, Tuple, Value};
 use index_set::IndexInfo;
@@ -34,19 +35,7 @@ pub struct Block {
     // The last slot and 1: 0 where there is none.
     ends: [u16; 256],
     // Of which numbers the marks are set: most right rows have a number whose mark is not, and so no left row has it.
-    marks: [bool; 4096],
-}
-
-// The mark of a number, below 4,096.
-#[tactic(auto, unfolding(crate::specs::Blocks::mark_of))]
-fn mark_of(number: &i64) -> u16
-    ensures mark { result ≡ mark_of number.now }
-    ensures few { result < 4096 }
-{
-    (number
-        .cast_unsigned()
-        .wrapping_mul(11_400_714_819_323_198_485)
-        >> 52) as u16
+    marks: Marks,
 }
 
 // Takes a slot between the first and the end of a row.
@@ -146,6 +135,7 @@ impl Block {
         ensures cost { (lefts rights : List Row)
             → cost_by_block result cursor.now lefts rights ≡ join_cost_ahead cursor.now lefts rights }
     {
+        let marks = Marks::none();
         let serves = has_numbers(&cursor.left, cursor.left_on)
             && lacks_index(cursor.right_indexes.as_slice(), cursor.right_on);
         Block {
@@ -157,7 +147,7 @@ impl Block {
             live: [false; 256],
             firsts: [0; 256],
             ends: [0; 256],
-            marks: [false; 4096],
+            marks,
         }
     }
 
@@ -184,7 +174,7 @@ impl Block {
             Some(number) => {
                 self.numbers[nth] = *number;
                 self.live[nth] = true;
-                self.marks[usize::from(mark_of(number))] = true;
+                self.marks.set(number);
             }
             None => self.live[nth] = false,
         }
@@ -215,7 +205,7 @@ impl Block {
         ensures meets { AreMarked self.old → (k : ℕ) → k < self.old.end - self.old.begin
             → number_held self.old k ≡ Some number.now → LiesBetween self.new k slot }
     {
-        if !self.marks[usize::from(mark_of(number))] {
+        if !self.marks.has(number) {
             return;
         }
         for nth in 0..self.end.saturating_sub(self.begin) {
@@ -296,7 +286,7 @@ impl Block {
         self.begin = cursor.at;
         self.end = cursor.at;
         self.seen = 0;
-        self.marks = [false; 4096];
+        self.marks = Marks::none();
         'rows: while self.end < end {
             let number = number_in(files, &cursor.left, self.end, cursor.left_on, left)?;
             self.push(&number);

@@ -6,6 +6,7 @@ mod by_block;
 mod fields;
 mod join;
 mod laws;
+mod marks;
 mod partner;
 mod select;
 mod walk;

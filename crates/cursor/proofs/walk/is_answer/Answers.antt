@@ -1,4 +1,4 @@
-use Rattle.std.proofs.Common.{◌≡◌, ◌∙◌, ap, Bool, true, length}
+use Rattle.std.proofs.Common.{◌≡◌, ◌∙◌, ap, Bool, length}
 use Rattle.afl_base.specs.Files.{bytes_at}
 use Rattle.db_model.specs.Row.{row_length, tuple_of}
 use Rattle.cursor.proofs.Walking.{live_answer, not_live, row_of_bytes}

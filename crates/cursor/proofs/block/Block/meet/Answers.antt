@@ -14,6 +14,6 @@ loop-nth-preserved c =
       meets = λ k less is.
           up_to (λ (n : ℕ). number_held c.args.self.now n ≡ Some c.args.number.now → LiesBetween new n c.args.slot) c.loop-nth.nth k
           (λ before held. c.note.ensures.widens k c.args.slot (inv.meets k before held))
-          (λ held. rw c.from-in-loop-nth.ensures at (c.note.ensures.notes (rw c.from-in-loop-nth.ensures (ap (λ (b : Block). number_held b c.loop-nth.nth) inv.kept ∙ held))))
+          (λ held. rw c.from.ensures at (c.note.ensures.notes (rw c.from.ensures (ap (λ (b : Block). number_held b c.loop-nth.nth) inv.kept ∙ held))))
           less is;
     }
