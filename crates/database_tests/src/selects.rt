@@ -18,8 +18,9 @@ use lvm::Code;
 use std::test::Fail;
 
 fn code_for(relation: &Relation, asked: Asked) -> Result<Code, Fail> {
-    match Code::compile(&asked.condition(), &relation.tuples.schema, 0) {
-        Ok(code) => Ok(code),
+    let mut code = Code::none();
+    match code.compile(&asked.condition(), &relation.tuples.schema, 0) {
+        Ok(()) => Ok(code),
         Err(_) => Err(Fail::new("the condition is refused")),
     }
 }

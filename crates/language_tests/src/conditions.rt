@@ -57,7 +57,9 @@ fn compiled(nodes: &[Node], names: u8) -> Result<Code, Refusal>
     requires few { length nodes.now ≤ 32 }
     requires names { names ≤ 8 }
 {
-    Code::compile(&condition(nodes), &schema(), names)
+    let mut code = Code::none();
+    code.compile(&condition(nodes), &schema(), names)?;
+    Ok(code)
 }
 
 // A row with this number, the text 'ba' and the time 9.

@@ -2,7 +2,7 @@
 
 #![tactic(auto)]
 
-ghost use Rattle.std.specs.Prelude.{◌≡◌, ◌≤◌, List, [], Option, Some, None, IfOk, OnOk, IfErr, length, map};
+ghost use Rattle.std.specs.Prelude.{◌≡◌, ◌≤◌, List, [], Option, Some, None, OnOk, IfErr, length, map};
 ghost use Rattle.db_model.specs.declared.schemas.Attribute.{Attribute};
 ghost use Rattle.db_model.specs.Cond.{Cond, IsCondition, condition_of};
 ghost use Rattle.db_model.specs.Item.{selects};
@@ -37,32 +37,50 @@ impl Model for Code {
 }
 
 impl Code {
-    /// The code of a condition over a schema, where `list_names` items, at most 8, stand in the
-    /// command's list before it.
+    /// The code of no condition, which each tuple satisfies.
+    pub fn none() -> Code
+        ensures { result ≡ [] }
+    {
+        Code {
+            instructions: Few::new(),
+        }
+    }
+
+    /// Puts the code of a condition over a schema in the place of the code of no condition, where
+    /// `list_names` items, at most 8, stand in the command's list before it. It is made there since
+    /// each copy of a code takes 1.3 KB of the stack. A code that was refused is of no use.
     ///
     /// # Errors
     ///
     /// `NoAttribute` counts the names from the left, those of the list first. `IllTyped` counts
     /// the items of the list, then the comparisons from the left, and comes where each name is an
     /// attribute.
-    pub fn compile(condition: &Condition, schema: &Schema, list_names: u8) -> Result<Code, Refusal>
+    pub fn compile(
+        &mut self,
+        condition: &Condition,
+        schema: &Schema,
+        list_names: u8,
+    ) -> Result<(), Refusal>
         requires condition { IsCondition condition.now }
         requires few { list_names ≤ 8 }
+        requires empty { self.old ≡ [] }
         ensures code { let tree = condition_of condition.now in
-            IfOk result (λ code. IsCodeOf schema.now.attributes tree code) }
+            OnOk result (IsCodeOf schema.now.attributes tree self.new) }
         ensures accepted { let tree = condition_of condition.now in
             OnOk result (refusal list_names schema.now.attributes tree ≡ None) }
         ensures refused { let tree = condition_of condition.now in
             IfErr result (λ no. refusal list_names schema.now.attributes tree ≡ Some no) }
     {
-        let mut code = Code {
-            instructions: Few::new(),
-        };
         let attributes = schema.attributes.as_slice();
-        match put_steps(condition, attributes, list_names, &mut code.instructions) {
-            None => Ok(code),
-            Some(refusal) => Err(refusal),
+        let into = &mut self.instructions;
+        if let Err(nth) = translate(condition.as_slice(), attributes, list_names, into) {
+            return Err(Refusal::NoAttribute { nth });
         }
+        let items = self.instructions.as_slice();
+        if let Some(nth) = ill_typed(items, attributes, list_names) {
+            return Err(Refusal::IllTyped { nth });
+        }
+        Ok(())
     }
 
     /// Whether the tuple satisfies the condition. Where there is no condition, each does.
@@ -94,29 +112,6 @@ impl Code {
             → HoldsWithin attributes condition attribute result }
     {
         derived(self.instructions.as_slice(), attribute)
-    }
-}
-
-// Puts the steps of a condition into an empty list, or tells how it is refused.
-fn put_steps(
-    condition: &Condition,
-    attributes: &[Attribute],
-    list_names: u8,
-    into: &mut Few<Instruction, 32>,
-) -> Option<Refusal>
-    requires condition { IsCondition condition.now }
-    requires attributes { length attributes.now ≤ 8 }
-    requires few { list_names ≤ 8 }
-    requires empty { into.old ≡ [] }
-    ensures code { result ≡ None → IsCodeOf attributes.now (condition_of condition.now) into.new }
-    ensures refused { refusal list_names attributes.now (condition_of condition.now) ≡ result }
-{
-    if let Err(nth) = translate(condition.as_slice(), attributes, list_names, into) {
-        return Some(Refusal::NoAttribute { nth });
-    }
-    match ill_typed(into.as_slice(), attributes, list_names) {
-        None => None,
-        Some(nth) => Some(Refusal::IllTyped { nth }),
     }
 }
 

@@ -11,14 +11,15 @@ use db_model::{Attribute, Compare, Ident, Node, Text};
 /// A step, which takes its operands from a stack and puts its result there.
 #[derive(Clone, Copy, Default)]
 pub enum Instruction {
+    // The first, so that a list of none is zeros, which are written where the list stays.
+    #[default]
+    Not,
     Number(i64),
     Text(Text),
     /// The value of the attribute at this place.
     Attribute(u8),
     Calculate(Arithmetic),
     Compare(Compare),
-    #[default]
-    Not,
     And,
     Or,
 }

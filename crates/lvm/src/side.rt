@@ -14,11 +14,12 @@ use db_model::{Compare, Range};
 /// What a step gives a range for: an attribute, a number, a condition's range, or nothing.
 #[derive(Clone, Copy, Default)]
 pub enum Side {
+    // The first, so that a stack of none is zeros, which are written where the stack stays.
+    #[default]
+    Other,
     Attribute(u8),
     Number(i64),
     Condition(Range),
-    #[default]
-    Other,
 }
 
 const EVERYTHING: Range = Range::Between {

@@ -2,7 +2,7 @@
 
 #![tactic(auto)]
 
-ghost use Rattle.std.specs.Prelude.{◌≡◌, ◌+◌, ◌≤◌, Some, None, IfOk, IsTrue, Option, get_or, map};
+ghost use Rattle.std.specs.Prelude.{◌≡◌, ◌+◌, ◌≤◌, Some, None, IsTrue, OnOk, Option, get_or, map};
 ghost use Rattle.afl_base.specs.Keeping.{OnlyReads};
 ghost use Rattle.cursor.specs.Pairs.{matching};
 ghost use Rattle.db_model.specs.Ahead as model;
@@ -19,10 +19,10 @@ ghost use Rattle.session_model.specs.Running.{IsRunning, IsWaiting, IsWaitingJoi
 ghost use Rattle.session_model.specs.View.{join_left, project, project_pair, relation_of_rows, select_left};
 
 use afl_base::{Failed, Files};
-use cursor::{JoinCursor, SelectCursor, none_begun};
+use cursor::JoinCursor;
 use index_set::HashTables;
 use session_model::{Held, Open, OpenJoin, OpenSelect, indexes_of};
-use session_plans::{JoinPlan, SelectPlan};
+use session_plans::JoinPlan;
 use tuple_file::Tuples;
 
 /// What a session knows beside its files: the hash tables, what it holds of the catalog, and the cursors.
@@ -40,47 +40,40 @@ pub(crate) struct Queried<'a> {
     pub(crate) tuples: &'a Tuples,
 }
 
-/// Begins a cursor over a relation, with the places of a list and a compiled condition.
-// Not inlined, so that the copies of a cursor are gone when the next one is made.
+/// Begins a cursor over a relation in its place.
+// Not inlined, so that what it needs is gone when the cursor is moved.
 #[inline(never)]
 pub(crate) fn begin_select<V: Files>(
     files: &mut V,
     memory: &Memory,
     queried: &Queried,
-    plan: SelectPlan,
-) -> Result<OpenSelect, Failed>
+    opened: &mut OpenSelect,
+) -> Result<(), Failed>
     requires running { IsRunning (V.state files.old) memory.now.tables.now memory.now.held.now memory.now.opens.now }
     requires there { get_or memory.now.held.now.relations queried.now.slot None ≡ Some queried.now.tuples.now }
+    requires over { opened.old.cursor.tuples ≡ queried.now.tuples.now }
     ensures rows { let state = V.state files.old in let attributes = queried.now.tuples.now.schema.attributes in
-        IsTrue state.tells → IfOk result (λ o.
-        (condition : Option Cond) → IsCodeOf attributes condition plan.code → select_left state.files o
-        ≡ map (project plan.places) (selected attributes condition (rows state.files queried.now.tuples.now))) }
+        IsTrue state.tells → OnOk result (
+        (condition : Option Cond) → IsCodeOf attributes condition opened.old.cursor.code → select_left state.files opened.new
+        ≡ map (project opened.old.places) (selected attributes condition (rows state.files queried.now.tuples.now))) }
     ensures ahead { let state = V.state files.old in let attributes = queried.now.tuples.now.schema.attributes in
         let infos = infos_of queried.now.slot queried.now.tuples.now memory.now.held.now.indexes in
-        IsTrue state.tells → IfOk result (λ o.
-        (condition : Option Cond) → IsCodeOf attributes condition plan.code → ahead_of_select state.files o
+        IsTrue state.tells → OnOk result (
+        (condition : Option Cond) → IsCodeOf attributes condition opened.old.cursor.code → ahead_of_select state.files opened.new
         ≡ model.select_ahead queried.now.tuples.now.schema.name (kinds infos) (ranges_of attributes condition)
         (relation_of_rows state.files queried.now.tuples.now) condition) }
-    ensures tuples { IfOk result (λ o. o.cursor.tuples ≡ queried.now.tuples.now) }
-    ensures waits { IfOk result (λ o. IsWaiting (V.state files.old) memory.now.held.now o.cursor) }
+    ensures tuples { OnOk result (opened.new.cursor.tuples ≡ queried.now.tuples.now) }
+    ensures waits { OnOk result (IsWaiting (V.state files.old) memory.now.held.now opened.new.cursor) }
     ensures reads { let attributes = queried.now.tuples.now.schema.attributes in
         let infos = infos_of queried.now.slot queried.now.tuples.now memory.now.held.now.indexes in
-        (condition : Option Cond) → IsCodeOf attributes condition plan.code
+        (condition : Option Cond) → IsCodeOf attributes condition opened.old.cursor.code
         → V.reads files.new ≤ V.reads files.old + begin_cost (slots (V.state files.old).files queried.now.tuples.now)
         (plan_of (kinds infos) (ranges_of attributes condition)) }
     ensures frame { OnlyReads V.state V.lent V.reads V.faults files.old files.new result }
 {
     let indexes = indexes_of(&memory.held.indexes, queried.slot, queried.tuples);
-    let mut opened = OpenSelect {
-        cursor: SelectCursor {
-            tuples: queried.tuples.copy(),
-            code: plan.code,
-            candidates: none_begun(),
-        },
-        places: plan.places,
-    };
     opened.cursor.begin(files, memory.tables, &indexes)?;
-    Ok(opened)
+    Ok(())
 }
 
 /// Begins a cursor over two relations, with the places of a list and of the ON attribute. It reads nothing.

@@ -16,8 +16,10 @@ ghost use Rattle.session_cursors.specs.Opened.{BeginsAnswer};
 
 use crate::beginning::{Memory, Queried, begin_join, begin_select};
 use afl_base::{Failed, Files};
-use db_model::{Condition, Ident, Idents, Query, Refusal};
-use session_model::{Held, Open, find_relation};
+use cursor::{SelectCursor, none_begun};
+use db_model::{Condition, Few, Ident, Idents, Query, Refusal};
+use lvm::Code;
+use session_model::{Held, Open, OpenSelect, find_relation};
 use session_plans::{plan_join, plan_select};
 
 // The relation of a name.
@@ -71,11 +73,20 @@ fn open_select<V: Files>(
         Some(queried) => queried,
         None => return Ok(Err(Refusal::NoRelation)),
     };
-    let plan = match plan_select(list, condition, &queried.tuples.schema) {
-        Ok(plan) => plan,
-        Err(refusal) => return Ok(Err(refusal)),
+    let mut opened = OpenSelect {
+        cursor: SelectCursor {
+            tuples: queried.tuples.copy(),
+            code: Code::none(),
+            candidates: none_begun(),
+        },
+        places: Few::new(),
     };
-    let opened = begin_select(files, memory, &queried, plan)?;
+    let code = &mut opened.cursor.code;
+    match plan_select(list, condition, &queried.tuples.schema, code) {
+        Ok(places) => opened.places = places,
+        Err(refusal) => return Ok(Err(refusal)),
+    }
+    begin_select(files, memory, &queried, &mut opened)?;
     Ok(Ok(Open::Select(opened)))
 }
 

@@ -50,12 +50,13 @@ pub fn plan_aggregates(
         Err(nth) => return Err(Refusal::NoAttribute { nth }),
     };
     let unsuited = first_unsuited(items.as_slice(), attributes);
-    match Code::compile(condition, schema, list.len() as u8) {
-        Ok(code) => match unsuited {
-            None => Ok(AggregatePlan { items, code }),
-            Some(nth) => Err(Refusal::IllTyped { nth }),
-        },
-        Err(refusal) => Err(first_of(unsuited, refusal)),
+    let mut code = Code::none();
+    if let Err(refusal) = code.compile(condition, schema, list.len() as u8) {
+        return Err(first_of(unsuited, refusal));
+    }
+    match unsuited {
+        None => Ok(AggregatePlan { items, code }),
+        Some(nth) => Err(Refusal::IllTyped { nth }),
     }
 }
 

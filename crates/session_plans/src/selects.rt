@@ -2,7 +2,7 @@
 
 #![tactic(auto)]
 
-ghost use Rattle.std.specs.Prelude.{◌≡◌, Ok, Err, IfErr, IfOk, map};
+ghost use Rattle.std.specs.Prelude.{◌≡◌, Ok, Err, IfErr, IfOk, OnOk, [], map};
 ghost use Rattle.db_model.specs.Answers.{selected};
 ghost use Rattle.db_model.specs.Cond.{IsCondition, condition_of};
 ghost use Rattle.db_model.specs.Database.{Relation};
@@ -21,20 +21,21 @@ pub struct SelectPlan {
     pub code: Code,
 }
 
-/// What a SELECT of names asks of a relation of this schema, or how it is refused.
-// Not inlined, so that the copies of the code are gone when rows are read.
-#[inline(never)]
+/// The places of a list's attributes in a relation of this schema, and in the place of the code of no
+/// condition that of the condition; or how the SELECT is refused.
 pub fn plan_select(
     list: &Idents,
     condition: &Condition,
     schema: &Schema,
-) -> Result<SelectPlan, Refusal>
+    code: &mut Code,
+) -> Result<Few<u8, 8>, Refusal>
     requires condition { IsCondition condition.now }
-    ensures rows { let tree = condition_of condition.now in IfOk result (λ plan. (r : Relation)
+    requires empty { code.old ≡ [] }
+    ensures rows { let tree = condition_of condition.now in IfOk result (λ places. (r : Relation)
         → r.schema ≡ schema.now → select_from list.now tree r
-        ≡ Ok (map (project plan.places) (selected schema.now.attributes tree r.rows))) }
-    ensures code { IfOk result (λ plan.
-        IsCodeOf schema.now.attributes (condition_of condition.now) plan.code) }
+        ≡ Ok (map (project places) (selected schema.now.attributes tree r.rows))) }
+    ensures code { OnOk result
+        (IsCodeOf schema.now.attributes (condition_of condition.now) code.new) }
     ensures refused { IfErr result (λ refusal. (r : Relation)
         → r.schema ≡ schema.now → select_from list.now (condition_of condition.now) r ≡ Err refusal) }
 {
@@ -42,8 +43,8 @@ pub fn plan_select(
         Ok(places) => places,
         Err(nth) => return Err(Refusal::NoAttribute { nth }),
     };
-    match Code::compile(condition, schema, list.len() as u8) {
-        Ok(code) => Ok(SelectPlan { places, code }),
-        Err(refusal) => Err(refusal),
+    if let Err(refusal) = code.compile(condition, schema, list.len() as u8) {
+        return Err(refusal);
     }
+    Ok(places)
 }

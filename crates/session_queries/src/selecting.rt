@@ -29,6 +29,7 @@ use afl_base::{Fault, Files, Sink};
 use cursor::{SelectCursor, none_begun};
 use db_model::{Condition, Few, Ident, Idents, Refusal, Tuple};
 use index_set::HashTables;
+use lvm::Code;
 use reply_text::write_rows;
 use session_model::{Held, Outcome};
 use session_plans::{SelectPlan, plan_select};
@@ -71,8 +72,12 @@ pub fn plan(
         Some(found) => found,
         None => return Err(Refusal::NoRelation),
     };
-    match plan_select(list, condition, &found.tuples.schema) {
-        Ok(plan) => Ok(Selecting { found, plan }),
+    let mut code = Code::none();
+    match plan_select(list, condition, &found.tuples.schema, &mut code) {
+        Ok(places) => Ok(Selecting {
+            found,
+            plan: SelectPlan { places, code },
+        }),
         Err(refusal) => Err(refusal),
     }
 }

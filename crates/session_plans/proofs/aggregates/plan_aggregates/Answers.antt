@@ -16,7 +16,7 @@ returns-in-None-clause-numbers c r e =
     (rw e (rw (c.as_slice.ensures.items, c.as_slice-attributes.ensures.items) at c.in-Ok.ensures.items))
     (rw e (rw (c.as_slice.ensures.items, c.as_slice-attributes.ensures.items) at c.in-Ok.ensures.known))
     (rw e (rw (c.as_slice-2.ensures.items, c.as_slice-attributes.ensures.items) at (sym c.in-None.ensures)))
-    (rw e (rw c.len.ensures.value at c.in-Ok-compile.ensures.accepted)))
+    (rw e (rw c.len.ensures.value at c.in_default.ensures.accepted)))
 
 pub returns-in-None-clause-suit : goal.returns-in-None-clause-suit
 returns-in-None-clause-suit c = each_true (suits_fold c.args.schema.now.attributes) c.in-Ok.items 0 (rw (c.as_slice-2.ensures.items, c.as_slice-attributes.ensures.items) at (sym c.in-None.ensures))
@@ -32,7 +32,7 @@ returns-in-Some-clause-refused c r e =
     (rw e (rw (c.as_slice.ensures.items, c.as_slice-attributes.ensures.items) at c.in-Ok.ensures.items))
     (rw e (rw (c.as_slice.ensures.items, c.as_slice-attributes.ensures.items) at c.in-Ok.ensures.known))
     c.in-Some.nth (rw e (rw (c.as_slice-2.ensures.items, c.as_slice-attributes.ensures.items) at (sym c.in-Some.ensures)))
-    (rw e (rw c.len.ensures.value at c.in-Ok-compile.ensures.accepted))
+    (rw e (rw c.len.ensures.value at c.in_default.ensures.accepted))
 
 pub returns-in-Err-compile-clause-refused : goal.returns-in-Err-compile-clause-refused
 returns-in-Err-compile-clause-refused c r e =

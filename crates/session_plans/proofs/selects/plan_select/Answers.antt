@@ -8,13 +8,13 @@ returns-in-Err-clause-refused c r e =
     select_unnamed c.args.list.now (condition_of c.args.condition.now) r c.in-Err.nth
     (rw e (rw (c.as_slice.ensures.items, c.as_slice-2.ensures.items) at c.in-Err.ensures.missing))
 
-pub returns-in-Ok-compile-clause-rows : goal.returns-in-Ok-compile-clause-rows
-returns-in-Ok-compile-clause-rows c r e =
+pub returns-clause-rows : goal.returns-clause-rows
+returns-clause-rows c r e =
     rw (sym e)
     (select_answers c.args.list.now (condition_of c.args.condition.now) r c.in-Ok.places
     (rw e (rw (c.as_slice.ensures.items, c.as_slice-2.ensures.items) at c.in-Ok.ensures.places))
     (rw e (rw (c.as_slice.ensures.items, c.as_slice-2.ensures.items) at c.in-Ok.ensures.known))
-    (rw e (rw c.len.ensures.value at c.in-Ok-compile.ensures.accepted)))
+    (rw e (rw c.len.ensures.value at c.in_default.ensures.accepted)))
 
 pub returns-in-Err-compile-clause-refused : goal.returns-in-Err-compile-clause-refused
 returns-in-Err-compile-clause-refused c r e =
