@@ -1,8 +1,8 @@
 //! The command of tokens of which it is known that they spell one: each place tells its part.
 //!
 //! A command is put where an earlier one was; false comes only where the tokens spell none, and
-//! then nothing is said of what stands there. Each kind is made in a function of its own, so that no
-//! other fills a place on the stack for it.
+//! then nothing is said of what stands there. Each kind is made in a function of its own, which is not
+//! inlined, so that no other fills a place on the stack for it.
 
 #![tactic(auto)]
 
@@ -32,6 +32,7 @@ pub fn command_of(tokens: &[Token], nodes: &mut Condition, command: &mut Command
     }
 }
 
+#[inline(never)]
 fn joined_of(tokens: &[Token], command: &mut Command) -> bool
     ensures { made result command.new ≡ joined_of tokens.now }
 {
@@ -42,6 +43,7 @@ fn joined_of(tokens: &[Token], command: &mut Command) -> bool
     true
 }
 
+#[inline(never)]
 fn pack_of(tokens: &[Token], command: &mut Command) -> bool
     ensures { made result command.new ≡ pack_of tokens.now }
 {
@@ -52,6 +54,7 @@ fn pack_of(tokens: &[Token], command: &mut Command) -> bool
     true
 }
 
+#[inline(never)]
 fn fetch_of(tokens: &[Token], command: &mut Command) -> bool
     ensures { made result command.new ≡ fetch_of tokens.now }
 {
@@ -62,6 +65,7 @@ fn fetch_of(tokens: &[Token], command: &mut Command) -> bool
     true
 }
 
+#[inline(never)]
 fn close_of(tokens: &[Token], command: &mut Command) -> bool
     ensures { made result command.new ≡ close_of tokens.now }
 {
@@ -72,6 +76,7 @@ fn close_of(tokens: &[Token], command: &mut Command) -> bool
     true
 }
 
+#[inline(never)]
 fn create_of(tokens: &[Token], command: &mut Command) -> bool
     ensures { made result command.new ≡ create_of tokens.now }
 {
@@ -149,6 +154,7 @@ fn index_of(tokens: &[Token], command: &mut Command) -> bool
     true
 }
 
+#[inline(never)]
 fn remove_of(tokens: &[Token], nodes: &mut Condition, command: &mut Command) -> bool
     ensures { made result command.new ≡ remove_of tokens.now nodes.old }
 {
@@ -192,6 +198,7 @@ fn unindex_of(tokens: &[Token], command: &mut Command) -> bool
     true
 }
 
+#[inline(never)]
 fn insert_of(tokens: &[Token], command: &mut Command) -> bool
     ensures { made result command.new ≡ insert_of tokens.now }
 {
@@ -228,6 +235,7 @@ fn first_insert_into(tokens: &[Token], relation: Ident, command: &mut Command) -
 }
 
 // Names or aggregates, after SELECT.
+#[inline(never)]
 fn selection_of(tokens: &[Token], nodes: &mut Condition, command: &mut Command) -> bool
     ensures { made result command.new ≡ selection_of tokens.now nodes.old }
 {
@@ -308,6 +316,7 @@ fn query_of(tokens: &[Token], nodes: &mut Condition) -> Option<Query>
 }
 
 // NUMBER query.
+#[inline(never)]
 fn open_of(tokens: &[Token], nodes: &mut Condition, command: &mut Command) -> bool
     ensures { made result command.new ≡ open_of tokens.now nodes.old }
 {

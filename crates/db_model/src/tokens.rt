@@ -12,12 +12,13 @@ use crate::texts::Text;
 /// A token of a command.
 #[derive(Clone, Copy, Debug, PartialEq, Eq)]
 pub enum Token {
+    /// A number of 1 to 18 digits, without a sign.
+    // The first, so that a list of none is zeros, which are written where the list stays.
+    Number(i64),
     /// A keyword, written in any letter case.
     Word(Keyword),
     /// A name, whose letter case counts.
     Name(Ident),
-    /// A number of 1 to 18 digits, without a sign.
-    Number(i64),
     /// A text between quotes.
     Quoted(Text),
     /// A sign.

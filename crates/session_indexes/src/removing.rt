@@ -110,6 +110,8 @@ fn take_index<V: Files>(
 }
 
 /// Takes an index away: its slot first, and then its file, where it has one.
+// Not inlined, so that what it keeps is on the stack of no other command.
+#[inline(never)]
 pub fn remove_index<V: Files>(
     base: &mut Base<V>,
     relation: &Ident,

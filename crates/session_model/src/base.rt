@@ -6,8 +6,8 @@ use index_set::HashTables;
 /// open cursors. Contracts see it as the database that these stand for.
 #[derive(Drop)]
 pub struct Base<V: Files> {
-    pub files: V,
     pub tables: HashTables,
     pub held: Held,
     pub opens: [Option<Open>; 4],
+    pub files: V,
 }

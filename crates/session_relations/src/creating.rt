@@ -33,6 +33,8 @@ use session_model::{Answer, Base, Held, Open, find_relation, prepare_catalog};
 use tuple_file::Tuples;
 
 /// Makes an empty relation: the catalog where it is absent, room in it, the file of its rows, and then its slot.
+// Not inlined, so that its schemas are on the stack of no other command.
+#[inline(never)]
 pub fn create_relation<V: Files>(base: &mut Base<V>, name: &Ident) -> Result<Answer, Failed>
     requires running { Runs V.Files base.old }
     ensures carried { Carries V.Files (command.CreateRelation name.now) base.old base.new result }

@@ -35,6 +35,8 @@ use session_model::{Answer, Base, Held, Open, prepare_catalog};
 use tuple_file::Tuples;
 
 /// Puts an attribute after the others of a relation that has no slots.
+// Not inlined, so that its schemas are on the stack of no other command.
+#[inline(never)]
 pub fn create_attribute<V: Files>(
     base: &mut Base<V>,
     name: &Ident,

@@ -28,6 +28,8 @@ use index_set::HashTables;
 use session_model::{Answer, Base, Held, Open, least_reader, prepare_catalog};
 
 /// Takes a relation away: its slot first, and then the file of its rows.
+// Not inlined, so that what it keeps is on the stack of no other command.
+#[inline(never)]
 pub fn remove_relation<V: Files>(base: &mut Base<V>, relation: &Ident) -> Result<Answer, Failed>
     requires running { Runs V.Files base.old }
     ensures carried { Carries V.Files (command.RemoveRelation relation.now) base.old base.new result }
