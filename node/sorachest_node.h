@@ -46,7 +46,7 @@ extern "C" {
 
 enum {
     SORACHEST_SECTOR = 4096,
-    SORACHEST_MEMORY = 68 * 1024,   /* bytes of memory, enough on every processor; fewer are refused */
+    SORACHEST_MEMORY = 64 * 1024,   /* bytes of memory, enough on every processor; fewer are refused */
     SORACHEST_THREAD_MEMORY = 2048, /* the same if a thread's own stack is used, see `wait` and `wake` */
     SORACHEST_MOST_COMMAND = 512,   /* bytes of a command; a longer one is refused with `no long` */
     SORACHEST_MOST_LINE = 299,      /* bytes of a line of a reply */

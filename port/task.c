@@ -4,7 +4,7 @@
 
 // As large as the program needs: README.md has the figures.
 #ifndef TASK_STACK
-#define TASK_STACK (60 * 1024)
+#define TASK_STACK (56 * 1024)
 #endif
 
 enum { NO_BYTE = -1 };

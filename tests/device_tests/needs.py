@@ -38,7 +38,8 @@ def measured():
     return [it for it in MEASURED if it[0] in found]
 
 
-MOST_RAM = 64 * 1024
+# what `port/build` links with
+MOST_RAM = 1024 * int(re.search(r"ram=(\d+)", read(f"{PORT}/build").decode())[1])
 
 
 def deepest(board):

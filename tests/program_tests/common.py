@@ -1,6 +1,7 @@
 """What the tests of the program share: the program and the launcher that are tried, runs, files, and comparisons."""
 import difflib
 import os
+import re
 import resource
 import subprocess
 import types
@@ -13,6 +14,9 @@ OUT = f"{ROOT}/crates/antelope_cli/out"
 NEW_IMAGE = bytes(256 * 4096)
 SENSORS = b"CREATE RELATION n; CREATE ATTRIBUTE v DOMAIN INT IN n;"
 RUN = ("run", "image", "-")
+# how many hash tables the sources have: 2, or fewer in a copy by port/tables
+with open(f"{ROOT}/crates/db_model/src/schemas.rt", encoding="utf-8") as file:
+    HASH_TABLES = int(re.search(r"MOST_TABLES: u16 = (\d);", file.read())[1])
 NOT_BUILT = "the program is not built, or older than its sources: it is proved and built first"
 # wrong arguments
 NO_FORM = (

@@ -1,9 +1,11 @@
 """Cuts at each write of a run over eight relations and eight indexes, and of the repairs after them; damage that no cut leaves."""
-from .common import ended, read, run, same, start, write
+from .common import HASH_TABLES, ended, read, run, same, start, write
 from .repairs import calls_of
 
 SIZE = 64 * 4096
 KINDS = ("MAXHEAP", "MEMHASH", "INLINE", "MAXHEAP", "INLINE", "MAXHEAP", "MEMHASH", "MAXHEAP")
+if HASH_TABLES < 2:
+    KINDS = ("MAXHEAP", "INLINE") * 4
 
 
 def made(number, kind):
