@@ -38,8 +38,8 @@ def measured():
     return [it for it in MEASURED if it[0] in found]
 
 
-# what `port/build` links with
-MOST_RAM = 1024 * int(re.search(r"ram=(\d+)", read(f"{PORT}/build").decode())[1])
+# the KiB of RAM with which `port/build` links: 4 more for what is compiled for size
+USUAL = int(re.search(r"usual=(\d+)", read(f"{PORT}/build").decode())[1])
 
 
 def deepest(board):
@@ -54,7 +54,8 @@ def test_the_stack_of_a_board_is_as_large_as_any_calls_need():
     for words in measured():
         board = build(*words)
         sizes = built[board]
-        same(sizes["stack"] + sizes["static data"] <= MOST_RAM, True, f"that {board} has at most {MOST_RAM} bytes of RAM")
+        most = 1024 * (USUAL + 4 * ("small" in words))
+        same(sizes["stack"] + sizes["static data"] <= most, True, f"that {board} has at most {most} bytes of RAM")
         most = deepest(board)
         print(f"{board}: stack {most} bytes at most by its calls, and with static data {sizes['static data'] + most} of RAM")
         same(most <= sizes["stack"], True, f"that {most} bytes fit into the stack of {board}, which has {sizes['stack']}")

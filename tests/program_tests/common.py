@@ -14,9 +14,6 @@ OUT = f"{ROOT}/crates/antelope_cli/out"
 NEW_IMAGE = bytes(256 * 4096)
 SENSORS = b"CREATE RELATION n; CREATE ATTRIBUTE v DOMAIN INT IN n;"
 RUN = ("run", "image", "-")
-# how many hash tables the sources have: 2, or fewer in a copy by port/tables
-with open(f"{ROOT}/crates/db_model/src/schemas.rt", encoding="utf-8") as file:
-    HASH_TABLES = int(re.search(r"MOST_TABLES: u16 = (\d);", file.read())[1])
 NOT_BUILT = "the program is not built, or older than its sources: it is proved and built first"
 # wrong arguments
 NO_FORM = (
@@ -112,6 +109,11 @@ def end(begun, status=0, wrote=b""):
 def read(path):
     with open(path, "rb") as file:
         return file.read()
+
+
+def hash_tables():
+    """How many hash tables the sources have: 2, or fewer in a copy by port/tables."""
+    return int(re.search(rb"MOST_TABLES: u16 = (\d);", read(f"{ROOT}/crates/db_model/src/schemas.rt"))[1])
 
 
 def write(path, content):

@@ -1,11 +1,10 @@
 """Cuts at each write of a run over eight relations and eight indexes, and of the repairs after them; damage that no cut leaves."""
-from .common import HASH_TABLES, ended, read, run, same, start, write
+from .common import ended, hash_tables, read, run, same, start, write
 from .repairs import calls_of
 
 SIZE = 64 * 4096
 KINDS = ("MAXHEAP", "MEMHASH", "INLINE", "MAXHEAP", "INLINE", "MAXHEAP", "MEMHASH", "MAXHEAP")
-if HASH_TABLES < 2:
-    KINDS = ("MAXHEAP", "INLINE") * 4
+WITHOUT_TABLES = ("MAXHEAP", "INLINE") * 4
 
 
 def made(number, kind):
@@ -24,7 +23,7 @@ def row(number, key):
 def eight_relations():
     """An image of 64 sectors with eight relations, an index on each and some rows in each."""
     write("image", bytes(SIZE))
-    script = "".join(made(number, kind) for number, kind in enumerate(KINDS))
+    script = "".join(made(number, kind) for number, kind in enumerate(KINDS if hash_tables() == 2 else WITHOUT_TABLES))
     script += "".join(row(number, key) for key in range(40) for number in range(8))
     replies = run("run", "image", "-", script=script.encode())
     same(replies.replace(b"ok\n", b""), b"", "the replies")

@@ -3,7 +3,7 @@ import contextlib
 import os
 
 from .common import (
-    EXAMPLES, HASH_TABLES, NEW_IMAGE, SENSORS, end, length, little_memory, needs, read, replies, run, same,
+    EXAMPLES, NEW_IMAGE, SENSORS, end, hash_tables, length, little_memory, needs, read, replies, run, same,
     start, unchanged, write,
 )
 
@@ -134,9 +134,11 @@ def test_a_look_counts_rows_and_pages():
     flash = b"flash sectors 256 pages free 4026 in files 38 in logs 32 to be collected 0\n"
     same(run("look", "image"), rows + b"index readings.celsius MAXHEAP\n" + flash, "a removed row and an index")
     more = b"CREATE INDEX readings.minute TYPE INLINE; REMOVE INDEX readings.celsius;"
-    kind = b"MEMHASH" if HASH_TABLES else b"INLINE"
-    run("run", "image", "-", script=more + b"CREATE INDEX readings.celsius TYPE %s;" % kind)
-    indexes = b"index readings.celsius %s\nindex readings.minute INLINE\n" % kind
+    # in a copy without hash tables there is no index of the third kind
+    if hash_tables() == 0:
+        return
+    run("run", "image", "-", script=more + b"CREATE INDEX readings.celsius TYPE MEMHASH;")
+    indexes = b"index readings.celsius MEMHASH\nindex readings.minute INLINE\n"
     # X0 is obsolete
     flash = b"flash sectors 256 pages free 4026 in files 22 in logs 32 to be collected 16\n"
     image = read("image")

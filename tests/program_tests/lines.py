@@ -6,7 +6,7 @@ import sys
 
 from random_scripts import broken_line
 
-from .common import EXAMPLES, HASH_TABLES, SENSORS, end, needs, read, replies, run, same, start, tried, write
+from .common import EXAMPLES, SENSORS, end, hash_tables, needs, read, replies, run, same, start, tried, write
 from .serial import served
 
 
@@ -21,7 +21,7 @@ def test_each_example_has_its_replies():
 
 def test_every_form_runs_on_64_KiB_of_stack():
     # what is promised is promised of the proved build of the first compiler: 64 KiB, and 40 without hash tables
-    most = 40 + 12 * HASH_TABLES if tried.is_proved and not tried.program.endswith(".by-rattle") else 320
+    most = 40 + 12 * hash_tables() if tried.is_proved and not tried.program.endswith(".by-rattle") else 320
     small = {"limit": f"ulimit -s {most}", "env": {"PATH": os.environ["PATH"]}}
     for script in sorted(it for it in os.listdir(EXAMPLES) if it.endswith(".aql")):
         run("run", f"{script}.img", f"{EXAMPLES}/{script}", **small)

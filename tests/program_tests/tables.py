@@ -2,7 +2,7 @@
 import os
 import subprocess
 
-from .common import EXAMPLES, HASH_TABLES, ROOT, SENSORS, Skipped, read, run, same
+from .common import EXAMPLES, ROOT, SENSORS, Skipped, hash_tables, read, run, same
 
 KEYS = b"INSERT (3) INTO n; INSERT (1) INTO n;"
 INDEX = b"CREATE INDEX n.v TYPE MEMHASH;"
@@ -10,7 +10,7 @@ INDEX = b"CREATE INDEX n.v TYPE MEMHASH;"
 
 def copied(tables):
     """A launcher in a copy of the sources with this many hash tables."""
-    if HASH_TABLES < 2:
+    if hash_tables() < 2:
         raise Skipped("these sources are such a copy")
     how = {"stdin": subprocess.DEVNULL, "stdout": subprocess.PIPE, "stderr": subprocess.STDOUT}
     same(subprocess.run([f"{ROOT}/port/tables", tables, "copy"], **how).stdout, b"", "what the copying says")
