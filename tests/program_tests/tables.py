@@ -29,8 +29,9 @@ def answered(program, image, script, status=0):
 def test_a_copy_without_hash_tables_differs_by_them_alone():
     program = copied("0")
     for script in sorted(it for it in os.listdir(EXAMPLES) if it.endswith(".aql")):
-        run("run", "image", f"{EXAMPLES}/{script}")
-        subprocess.run([program, "run", "other", f"{EXAMPLES}/{script}"], check=True, stdout=subprocess.DEVNULL)
+        replies = run("run", "image", f"{EXAMPLES}/{script}")
+        other = subprocess.run([program, "run", "other", f"{EXAMPLES}/{script}"], check=True, stdout=subprocess.PIPE)
+        same(other.stdout, replies, f"the replies to {script}")
         same(read("other") == read("image"), True, f"that the images of {script} are the same")
         os.remove("image")
         os.remove("other")

@@ -13,7 +13,7 @@ use crate::texts::Text;
 #[derive(Clone, Copy, Debug, PartialEq, Eq)]
 pub enum Token {
     /// A number of 1 to 18 digits, without a sign.
-    // The first, so that a list of none is zeros, which are written where the list stays.
+    // The default comes first, so that an empty list is zeros, which are written where the list stays.
     Number(i64),
     /// A keyword, written in any letter case.
     Word(Keyword),

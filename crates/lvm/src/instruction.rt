@@ -11,7 +11,7 @@ use db_model::{Attribute, Compare, Ident, Node, Text};
 /// A step, which takes its operands from a stack and puts its result there.
 #[derive(Clone, Copy, Default)]
 pub enum Instruction {
-    // The first, so that a list of none is zeros, which are written where the list stays.
+    // The default comes first, so that an empty list is zeros, which are written where the list stays.
     #[default]
     Not,
     Number(i64),

@@ -14,7 +14,7 @@ use db_model::{Compare, Range};
 /// What a step gives a range for: an attribute, a number, a condition's range, or nothing.
 #[derive(Clone, Copy, Default)]
 pub enum Side {
-    // The first, so that a stack of none is zeros, which are written where the stack stays.
+    // The default comes first, so that an empty stack is zeros, which are written where the stack stays.
     #[default]
     Other,
     Attribute(u8),

@@ -9,5 +9,6 @@ pub struct Base<V: Files> {
     pub tables: HashTables,
     pub held: Held,
     pub opens: [Option<Open>; 4],
+    // The last: before the tables it would be copied together with one of them.
     pub files: V,
 }
