@@ -1,5 +1,5 @@
 -- The window of a volume: what is held of the file that was read last.
-use Rattle.std.specs.Prelude.{◌≡◌, ℕ, ◌+◌, ◌<◌, List, length, slice_index}
+use Rattle.std.specs.Prelude.{◌≡◌, ℕ, ◌+◌, ◌<◌, ◌≤◌, List, length, slice_index}
 use Rattle.coffee_layout.specs.FileBytes.{file_byte}
 use Rattle.coffee_layout.specs.declared.file.FileAt.{FileAt}
 use Rattle.coffee_volume.specs.Volumes.{EntryTable, AtEntry}
@@ -17,6 +17,10 @@ IsPart bytes n at content = (k : ℕ) → k < n → slice_index bytes k ≡ cont
 -- what is held is part of the content
 abbrev pub ShowsContent : Part → (ℕ → ℕ) → Type 0
 ShowsContent part content = IsPart part.bytes (length part.bytes) part.from content
+
+-- n bytes of the file of an id, from a place of its content on, are held
+abbrev pub Holds : Part → (file at n : ℕ) → Type 0
+Holds part file at n = (part.file ≡ file) × (part.from ≤ at) × (at + n ≤ part.from + length part.bytes)
 
 -- the content of a file, byte by byte
 abbrev pub content_of : List ℕ → FileAt → ℕ → ℕ

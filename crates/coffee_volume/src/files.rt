@@ -72,9 +72,10 @@ impl<F: Flash> Files for Volume<F> {
     }
 
     fn read(&mut self, id: FileId, at: u32, into: &mut [u8]) -> Result<(), Failed> {
-        let file = self.entry(id).at;
-        self.window.read(&mut self.flash, id, &file, at, into)?;
-        Ok(())
+        if self.window.gives(id, at, into) {
+            return Ok(());
+        }
+        self.read_flash(id, at, into)
     }
 
     /// Of the pages that were free, only those of the new file are taken.

@@ -1,6 +1,8 @@
-ghost use Rattle.std.specs.Prelude.{◌≡◌, ◌*◌, ◌/◌, ◌<◌, ◌≤◌, ℕ, false, max, Some, length, IsTrue};
-ghost use Rattle.afl_base.specs.Files.{IsLive, IsNamed, IsUnnamed, file_at, size_at, used};
+ghost use Rattle.std.specs.Prelude.{◌≡◌, ◌+◌, ◌*◌, ◌/◌, ◌<◌, ◌≤◌, ℕ, false, max, Some, length, slice_range, IsTrue, OnOk};
+ghost use Rattle.afl_base.specs.Files.{IsLive, IsNamed, IsUnnamed, bytes_at, file_at, size_at, used};
 ghost use Rattle.afl_base.specs.Fit.{fit};
+ghost use Rattle.afl_base.specs.Keeping.{OnlyReads};
+ghost use Rattle.afl_base.specs.Regions.{regions};
 ghost use Rattle.coffee_layout.specs.Units.{pages_of};
 ghost use Rattle.coffee_layout.specs.declared.file.FileAt.{FileAt};
 ghost use Rattle.coffee_merge.specs.Holding.{HoldsTable, IsStored};
@@ -9,7 +11,7 @@ ghost use Rattle.coffee_volume.specs.Windows.{ShowsFile};
 
 use crate::entry::{Entry, EntryTable};
 use crate::window::Window;
-use afl_base::{FileId, Files, Flash, Kind};
+use afl_base::{Failed, FileId, Files, Flash, Kind};
 use coffee_layout::FileAt;
 
 /// The files of a flash. It keeps 32 entries, one for each file, the part of a page that was read last,
@@ -53,6 +55,25 @@ impl<F: Flash> Volume<F> {
             Some(entry) => entry,
             None => unreachable!(),
         }
+    }
+
+    /// Reads as `read` does, also what the window does not hold.
+    // Not inlined, so that a read of what it holds saves no registers for this one.
+    #[inline(never)]
+    pub(crate) fn read_flash(&mut self, id: FileId, at: u32, into: &mut [u8]) -> Result<(), Failed>
+        requires live { IsLive (⟦<Self as Files>⟧.state self.old).files id }
+        requires range { at + length into.old ≤ size_at (⟦<Self as Files>⟧.state self.old).files id }
+        ensures bytes { let files = (⟦<Self as Files>⟧.state self.old).files in
+            IsTrue (⟦<Self as Files>⟧.state self.old).tells
+            → OnOk result (into.new ≡ slice_range (bytes_at files id) at (at + length into.old)) }
+        ensures reads { ⟦<Self as Files>⟧.reads self.new
+            ≤ ⟦<Self as Files>⟧.reads self.old + 3 * regions at (length into.old) }
+        ensures frame { let files = ⟦<Self as Files>⟧ in
+            OnlyReads files.state files.lent files.reads files.faults self.old self.new result }
+    {
+        let file = self.entry(id).at;
+        self.window.read(&mut self.flash, id, &file, at, into)?;
+        Ok(())
     }
 
     /// What the files ask for is little: a growing one asks for at most twice the pages that its size needs,

@@ -1,9 +1,9 @@
-ghost use Rattle.std.specs.Prelude.{◌≡◌, ℕ, ◌+◌, ◌-◌, ◌*◌, ◌%◌, ◌≤◌, [], None, IsSome, IsTrue, OnErr, OnOk, length};
+ghost use Rattle.std.specs.Prelude.{◌≡◌, ◌↔◌, ℕ, ◌+◌, ◌-◌, ◌*◌, ◌%◌, ◌≤◌, [], None, IsSome, IsTrue, OnErr, OnOk, length};
 ghost use Rattle.afl_base.specs.Keeping.{OnlyReads};
 ghost use Rattle.afl_base.specs.Regions.{regions};
 ghost use Rattle.coffee_layout.specs.Files.{FitsIn};
 ghost use Rattle.coffee_layout.specs.Units.{pages_of};
-ghost use Rattle.coffee_volume.specs.Windows.{IsPart, ShowsContent, content_of};
+ghost use Rattle.coffee_volume.specs.Windows.{Holds, IsPart, ShowsContent, content_of};
 
 use afl_base::{Failed, FileId, Flash};
 use coffee_layout::FileAt;
@@ -63,6 +63,43 @@ impl Window {
     {
         self.held = 0;
         self.end = u32::MAX;
+    }
+
+    /// Fills `into` where all of it is held of this file, and answers whether it is. Of most reads it is.
+    pub(crate) fn gives(&mut self, id: FileId, at: u32, into: &mut [u8]) -> bool
+        ensures told { IsTrue result ↔ Holds self.old id at (length into.old) }
+        ensures part { IsTrue result → (content : ℕ → ℕ) → ShowsContent self.old content
+            → IsPart into.new (length into.old) at content }
+        ensures same { self.new ≡ self.old }
+    {
+        if !self.holds(id.number(), at, into.len()) {
+            return false;
+        }
+        // A guess of where the next read begins: it may wrap.
+        self.end = at.wrapping_add(into.len() as u32);
+        self.give_all(at, into);
+        true
+    }
+
+    // Whether all of these bytes of this file are held.
+    fn holds(&self, file: u16, at: u32, len: usize) -> bool
+        ensures { IsTrue result ↔ Holds self.now file at len }
+    {
+        if self.file != file || at < self.from {
+            return false;
+        }
+        let before = (at - self.from) as usize;
+        before <= self.held && len <= self.held - before
+    }
+
+    // Fills `into` with what is held.
+    fn give_all(&self, at: u32, into: &mut [u8])
+        requires { Holds self.now self.now.file at (length into.old) }
+        ensures { (content : ℕ → ℕ) → ShowsContent self.now content
+            → IsPart into.new (length into.old) at content }
+    {
+        let before = (at - self.from) as usize;
+        into.copy_from_slice(&self.bytes[before..before + into.len()]);
     }
 
     /// Fills `into` with the content of a file from byte `at` on.

@@ -1,33 +1,30 @@
 use Rattle.std.proofs.Common.{not, ◌&&◌}
-use Rattle.coffee_volume.proofs.Tables.{read_seen, told_by}
-use Rattle.coffee_volume.proofs.Windows.{shown_here, shown_on}
+use Rattle.coffee_volume.specs.Windows.{content_of}
+use Rattle.coffee_volume.proofs.Tables.{entry_seen, read_seen, told_by}
+use Rattle.coffee_volume.proofs.Windows.{shown_here}
 use Rattle.coffee_volume.proofs.files.VolumeFiles.read.Goals as goal
 
 pub invariant_of-self : goal.invariant_of-self
 invariant_of-self g c =
     let v = c.args.self.now in
-    let old = g.F.Flash.image v.flash in
-    let e = c.entry-file in
-    let done = c.read.ensures in
-    let same = done.frame.same in
     record {
       count = v.count;
-      big = rw same v.big;
-      whole = rw same v.whole;
-      regular = rw same v.regular;
-      pending = rw same v.pending;
+      big = v.big;
+      whole = v.whole;
+      regular = v.regular;
+      pending = v.pending;
       space = v.space;
-      told = rw same v.told;
-      shown = λ told.
-          shown_on old (g.F.Flash.image c.read.new.flash) v.table e.result c.args.id c.read.new.self same e.ensures.entry done.file
-          (done.shows told (λ file. shown_here old v.table v.window e.result c.args.id (v.shown told) e.ensures.entry file));
+      told = v.told;
+      shown = λ told. rw c.gives.ensures.same (v.shown told);
     }
 
-pub returns-clause-bytes : goal.returns-clause-bytes
-returns-clause-bytes g c told =
+pub returns-then-gives-clause-bytes : goal.returns-then-gives-clause-bytes
+returns-then-gives-clause-bytes g c told =
     let v = c.args.self.now in
     let old = g.F.Flash.image v.flash in
+    let tells = g.F.Flash.tells && not v.failed in
     let both = told_by g.F.Flash.tells v.failed told in
-    let e = c.entry-file in
-    read_seen (g.F.Flash.tells && not v.failed) old v.table c.args.id e.result c.args.at c.args.into.now c.read.new.into told e.ensures.entry c.requires.range c.read.auto.into
-    (c.in_ok-read.ensures.bytes both.0 (λ file. shown_here old v.table v.window e.result c.args.id (v.shown both.0) e.ensures.entry file))
+    let held = c.gives.ensures.told.0 c.if-gives.true in
+    let entry = entry_seen tells old v.table c.args.id c.requires.live in
+    read_seen tells old v.table c.args.id entry.0 c.args.at c.args.into.now c.gives.new.into told entry.1 c.requires.range c.gives.auto.into
+    (c.gives.ensures.part c.if-gives.true (content_of old entry.0.at) (shown_here old v.table v.window entry.0 c.args.id (v.shown both.0) entry.1 held.0))
