@@ -2,7 +2,7 @@
 
 #![tactic(auto)]
 
-ghost use Rattle.std.specs.Prelude.{◌≡◌, ◌+◌, ◌<◌, ◌≤◌, IfSome, IsTrue, List, [], ◌∷◌, length, map};
+ghost use Rattle.std.specs.Prelude.{◌≡◌, ◌+◌, ◌<◌, ◌≤◌, Bool, IfSome, IsTrue, List, [], ◌∷◌, length, map};
 ghost use Rattle.db_model.specs.declared.values.Value.{Value};
 ghost use Rattle.lvm.specs.Evaluate as spec;
 ghost use Rattle.lvm.specs.Evaluate.{Truth};
@@ -11,7 +11,7 @@ ghost use Rattle.lvm.specs.declared.instruction.Instruction.TheVariants.{And};
 
 use crate::comparing::compared_from;
 use crate::instruction::Instruction;
-use crate::item::{Item, calculation, comparison, is_true};
+use crate::item::{Item, calculation, compares_with, comparison, is_true};
 use crate::stack::Stack;
 use crate::values::Values;
 
@@ -65,8 +65,26 @@ fn both_compared<V: Values>(instructions: &[Instruction], values: &V) -> Option<
         return None;
     }
     let truth = compared(left, right, compare, values)?;
+    if !truth && compares_attribute(next_left, next_right, next_compare) {
+        return Some(false);
+    }
     let next_truth = compared(next_left, next_right, next_compare, values)?;
     Some(truth && next_truth)
+}
+
+// Whether an attribute is compared with a number: whatever it is, a truth value comes out.
+fn compares_attribute(left: &Instruction, right: &Instruction, compare: &Instruction) -> bool
+    ensures { IsTrue result → (values : List Value) → (truth : Bool) × ((stack : List spec.Item)
+        → spec.evaluated (left.now ∷ right.now ∷ compare.now ∷ []) values stack ≡ Truth truth ∷ stack) }
+{
+    matches!(
+        (left, right, compare),
+        (
+            Instruction::Attribute(_),
+            Instruction::Number(_),
+            Instruction::Compare(_)
+        )
+    )
 }
 
 fn is_and(instruction: &Instruction) -> bool
@@ -89,7 +107,7 @@ fn compared<V: Values>(
 {
     match (left, right, compare) {
         (Instruction::Attribute(at), Instruction::Number(number), Instruction::Compare(how)) => {
-            Some(comparison(*how, values.item(*at), Item::Number(*number)))
+            Some(compares_with(*how, values.item(*at), *number))
         }
         _ => None,
     }

@@ -2,7 +2,7 @@
 
 #![tactic(auto)]
 
-ghost use Rattle.std.specs.Prelude.{◌≡◌, slice_get};
+ghost use Rattle.std.specs.Prelude.{◌≡◌, Some, slice_get};
 ghost use Rattle.std.specs.Ordering.{int_cmp};
 ghost use Rattle.db_model.specs.Item as item;
 ghost use Rattle.lvm.specs.Evaluate as spec;
@@ -60,6 +60,16 @@ pub fn comparison(how: Compare, a: Item<'_>, b: Item<'_>) -> bool
     match (a, b) {
         (Item::Number(x), Item::Number(y)) => numbers_compare(how, x, y),
         (Item::Text(x), Item::Text(y)) => satisfies(how, x.cmp(y)),
+        _ => false,
+    }
+}
+
+/// Whether an item compares so with a number: none does that is no number.
+pub fn compares_with(how: Compare, item: Item<'_>, number: i64) -> bool
+    ensures { result ≡ spec.item_comparison how (item_of item.entry) (spec.Number (Some number)) }
+{
+    match item {
+        Item::Number(x) => numbers_compare(how, x, number),
         _ => false,
     }
 }
