@@ -1,18 +1,17 @@
 -- The pairs of a left row, by a block, and what is read for them.
-use Rattle.std.proofs.Common.{◌≡◌, ℕ, ℤ, ◌+◌, ◌-◌, ◌*◌, ◌<◌, ◌≤◌, Bool, true, false, cond, List, [], ◌∷◌, length, get_or, take, drop, map, Option, Some, None, refl, ap, sym, ◌∙◌, subst, arith, slice_get, ⊎_elim}
-use Rattle.std.specs.Prelude.{IfSome, MatchOption}
+use Rattle.std.proofs.Common.{◌≡◌, ℕ, ℤ, ◌+◌, ◌-◌, ◌*◌, ◌<◌, ◌≤◌, Bool, true, false, cond, List, [], ◌∷◌, length, get_or, take, drop, Option, Some, None, refl, ap, sym, ◌∙◌, subst, arith, slice_get, ⊎_elim}
+use Rattle.std.specs.Prelude.{IfSome}
 use Rattle.std.proofs.lemmas.Bool.{cases_lt}
 use Rattle.std.proofs.lemmas.List.{drop-drop}
 use Rattle.afl_base.specs.Files.{State}
 use Rattle.db_model.specs.declared.values.Value.{Value}
 use Rattle.db_model.specs.declared.values.Value.TheVariants.{Number, Text}
 use Rattle.db_model.specs.Answers.{live_tuples}
-use Rattle.db_model.specs.Cost.{sum}
 use Rattle.db_model.specs.Row.{Row, no_row}
 use Rattle.tuple_file.specs.Tuples.{rows}
 use Rattle.cursor.specs.declared.block.Block.{Block}
 use Rattle.cursor.specs.declared.join.JoinCursor.{JoinCursor}
-use Rattle.cursor.specs.Blocks.{FindsSlot, HasMetRights, IsBlockFor, PairsInBlock, PaysInBlock, StandsFor, at_next_row, behind_slot, cost_in_blocks, number_held, number_of_row, number_of_value}
+use Rattle.cursor.specs.Blocks.{FindsSlot, HasMetRights, IsBlockFor, PairsInBlock, StandsFor, at_next_row, behind_slot, cost_in_blocks, number_held, number_of_row, number_of_value}
 use Rattle.cursor.specs.Pairs.{MayReadPairs, belongs, lefts_of, pairs_left, partner_slots, right_side_cost, right_side_costs}
 use Rattle.cursor.proofs.Joins.{first_costs, no_live, one_cost, right_found, right_none, stands_at}
 use Rattle.cursor.proofs.Suited.{count_rows}

@@ -1,11 +1,11 @@
 -- Steps of a join by blocks.
-use Rattle.std.proofs.Common.{◌≡◌, ℕ, ℤ, ◌+◌, ◌-◌, ◌*◌, ◌<◌, ◌≤◌, Bool, true, false, cond, List, [], ◌∷◌, get_or, Option, Some, None, refl, ap, sym, ◌∙◌, subst, arith, nat_lt}
+use Rattle.std.proofs.Common.{◌≡◌, ℕ, ℤ, ◌+◌, ◌-◌, ◌<◌, ◌≤◌, Bool, true, false, cond, List, [], get_or, Option, Some, None, ap, sym, ◌∙◌, subst, arith, nat_lt}
 use Rattle.std.proofs.lemmas.Bool.Decides.{nat_tests}
 use Rattle.db_model.specs.declared.values.Value.TheVariants.{Number}
 use Rattle.db_model.specs.Row.{Row, no_row}
 use Rattle.cursor.specs.declared.block.Block.{Block}
 use Rattle.cursor.specs.declared.join.JoinCursor.{JoinCursor}
-use Rattle.cursor.specs.Blocks.{FindsSlot, HasMet, LiesBetween, number_held, number_of_row}
+use Rattle.cursor.specs.Blocks.{FindsSlot, HasMet, number_held, number_of_row}
 use Rattle.cursor.specs.Pairs.{belongs, partner_slots}
 use Rattle.cursor.specs.Remaining.{is_live_and}
 use Rattle.cursor.proofs.Blocks.{no_partner, no_partners, one_partner, partner_found, partner_passed, partners_passed}

@@ -1,5 +1,5 @@
 -- Walks over the left rows by blocks.
-use Rattle.std.proofs.Common.{◌≡◌, ℕ, ◌+◌, ◌-◌, ◌*◌, ◌<◌, ◌≤◌, Bool, true, false, cond, List, [], ◌∷◌, length, Option, Some, None, refl, ap, sym, ◌∙◌, subst, arith, slice_get}
+use Rattle.std.proofs.Common.{◌≡◌, ℕ, ◌+◌, ◌-◌, ◌*◌, ◌<◌, ◌≤◌, Bool, true, false, cond, List, ◌∷◌, Option, None, refl, ap, sym, ◌∙◌, subst, arith, slice_get}
 use Rattle.std.specs.Prelude.{OnErr, Result, Ok, Err}
 use Rattle.afl_base.specs.Files.{State}
 use Rattle.db_model.specs.declared.values.Value.{Value}
@@ -9,8 +9,8 @@ use Rattle.index_set.specs.Tables.{Tables}
 use Rattle.tuple_file.specs.Tuples.{rows}
 use Rattle.cursor.specs.declared.block.Block.{Block}
 use Rattle.cursor.specs.declared.join.JoinCursor.{JoinCursor}
-use Rattle.cursor.specs.Blocks.{HasMetRights, IsBlockFor, IsBlockOf, YieldsByBlock, at_next_row, behind_slot, cost_by_block, cost_in_blocks}
-use Rattle.cursor.specs.Pairs.{FitsInner, FitsPairs, HasAhead, MayReadPairs, belongs, join_cost_ahead, pairs_left}
+use Rattle.cursor.specs.Blocks.{HasMetRights, IsBlockFor, YieldsByBlock, at_next_row, behind_slot, cost_by_block, cost_in_blocks}
+use Rattle.cursor.specs.Pairs.{FitsPairs, HasAhead, MayReadPairs, belongs, join_cost_ahead, pairs_left}
 use Rattle.cursor.proofs.Joins.{all_passed}
 
 -- ---- where the join stands

@@ -1,12 +1,10 @@
 -- Blocks of left rows: what they hold, and the right slots of their numbers.
-use Rattle.std.proofs.Common.{◌≡◌, ℕ, ℤ, zero, suc, ◌+◌, ◌-◌, ◌*◌, ◌<◌, ◌≤◌, Bool, true, false, cond, List, [], ◌∷◌, length, get_or, Option, Some, None, refl, ap, sym, ◌∙◌, subst, arith, slice_get, IsTrue, ⊎_elim}
-use Rattle.std.specs.Prelude.{◌&&◌, IfNone, IfSome, pos}
+use Rattle.std.proofs.Common.{◌≡◌, ℕ, ℤ, zero, suc, ◌+◌, ◌-◌, ◌<◌, ◌≤◌, Bool, true, false, cond, List, [], ◌∷◌, get_or, Option, Some, None, refl, ap, sym, ◌∙◌, subst, arith, slice_get, ⊎_elim}
+use Rattle.std.specs.Prelude.{◌&&◌, IfNone, IfSome}
 use Rattle.std.specs.List.{range_with_len}
 use Rattle.std.specs.Ordering.{int_eq}
-use Rattle.std.specs.Option.{option_map_or}
 use Rattle.std.proofs.lemmas.Bool.{cases_eq, cases_lt}
 use Rattle.std.proofs.lemmas.Bool.Decides.{Decides-int_eq}
-use Rattle.afl_base.specs.Files.{State, Table, bytes_at}
 use Rattle.db_model.specs.declared.schemas.Attribute.{Attribute}
 use Rattle.db_model.specs.declared.schemas.Domain.{Domain}
 use Rattle.db_model.specs.declared.schemas.Domain.TheVariants.{Int, Long, Time, Str}
@@ -14,15 +12,12 @@ use Rattle.db_model.specs.declared.values.Value.{Value}
 use Rattle.db_model.specs.declared.values.Value.TheVariants.{Number, Text}
 use Rattle.db_model.specs.Answers.{same_value}
 use Rattle.db_model.specs.Row.{AllSuit, Row, no_row, suits}
-use Rattle.tuple_file.specs.declared.tuples.Tuples.{Tuples}
 use Rattle.tuple_file.specs.Column.{IsNumber, is_number}
-use Rattle.tuple_file.specs.Tuples.{row, rows, slots}
 use Rattle.cursor.specs.declared.block.Block.{Block}
-use Rattle.cursor.specs.Blocks.{AreMarked, HasMet, HoldsLefts, LiesBetween, StandsFor, number_held, number_of_row, number_of_value}
+use Rattle.cursor.specs.Blocks.{AreMarked, HasMet, LiesBetween, number_held, number_of_row, number_of_value}
 use Rattle.cursor.specs.Pairs.{belongs, partner_slots}
 use Rattle.cursor.specs.Remaining.{is_live_and, passing}
 use Rattle.cursor.proofs.Lists.{kept, passed_over}
-use Rattle.cursor.proofs.Walking.{row_there}
 
 -- what holds before a number and at it holds before the next
 pub up_to : (P : ℕ → Type 0) (n k : ℕ) → (k < n → P k) → P n → k < n + 1 → P k
@@ -53,27 +48,18 @@ has_number (a ∷ attributes) [] place s n e = absurd (s)
 has_number (a ∷ attributes) (v ∷ tuple) zero s n e = number_suits a.domain v s.0 n e
 has_number (a ∷ attributes) (v ∷ tuple) (suc place) s n e = has_number attributes tuple place s.1 n e
 
-module _ (files : Table) (t : Tuples) (slot place : ℕ) (below : slot < slots files t) where
-  there : get_or (rows files t) slot no_row ≡ row files t slot
-  there = row_there t.schema.attributes (bytes_at files t.file) slot below
+module _ (r : Row) (tuple : List Value) (live : Bool) (is : r ≡ record { tuple = tuple; live = live }) where
+  pub live_there : live ≡ true → r ≡ record { tuple = tuple; live = true }
+  live_there alive = is ∙ ap (λ (b : Bool). record { tuple = tuple; live = b }) alive
 
-  pub number_read : (tuple : List Value) (live : Bool) → row files t slot ≡ record { tuple = tuple; live = live } → live ≡ true
-      → number_of_value (slice_get tuple place) ≡ number_of_row place (get_or (rows files t) slot no_row)
-  number_read tuple live is alive =
-      sym (ap (number_of_row place) (there ∙ is ∙ ap (λ (b : Bool). record { tuple = tuple; live = b }) alive))
+  pub removed_there : live ≡ false → r.live ≡ false
+  removed_there dead = ap (λ (row : Row). row.live) is ∙ dead
 
-  pub number_missing : (tuple : List Value) (live : Bool) → row files t slot ≡ record { tuple = tuple; live = live } → live ≡ false
-      → None ≡ number_of_row place (get_or (rows files t) slot no_row)
-  number_missing tuple live is dead =
-      sym (ap (number_of_row place) (there ∙ is ∙ ap (λ (b : Bool). record { tuple = tuple; live = b }) dead))
+  pub number_read : (place : ℕ) → live ≡ true → number_of_value (slice_get tuple place) ≡ number_of_row place r
+  number_read place alive = sym (ap (number_of_row place) (live_there alive))
 
-  pub live_there : (tuple : List Value) (live : Bool) → row files t slot ≡ record { tuple = tuple; live = live } → live ≡ true
-      → get_or (rows files t) slot no_row ≡ record { tuple = tuple; live = true }
-  live_there tuple live is alive = there ∙ is ∙ ap (λ (b : Bool). record { tuple = tuple; live = b }) alive
-
-  pub removed_there : (tuple : List Value) (live : Bool) → row files t slot ≡ record { tuple = tuple; live = live } → live ≡ false
-      → (get_or (rows files t) slot no_row).live ≡ false
-  removed_there tuple live is dead = ap (λ (r : Row). r.live) (there ∙ is) ∙ dead
+  pub number_missing : (place : ℕ) → live ≡ false → None ≡ number_of_row place r
+  number_missing place dead = sym (ap (number_of_row place) (is ∙ ap (λ (b : Bool). record { tuple = tuple; live = b }) dead))
 
 pub numbers_suit : (attributes : List Attribute) (tuple : List Value) (place : ℕ) (dead : Bool) → AllSuit attributes tuple → IsNumber attributes place → number_of_value (slice_get tuple place) ≡ None → dead ≡ false
 numbers_suit attributes tuple place dead s n e = absurd (has_number attributes tuple place s n e)

@@ -7,8 +7,8 @@ pub mod Joins
 pub mod Waiting
 pub mod Walking
 pub mod Scanned
-pub mod Bits
 pub mod Blocks
 pub mod BlockSteps
 pub mod BlockPairs
+pub mod Over
 pub mod BlockWalk

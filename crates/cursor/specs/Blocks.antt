@@ -1,5 +1,5 @@
 -- Blocks of left rows, for each of which the right rows are read once.
-use Rattle.std.specs.Prelude.{◌≡◌, ◌≤◌, ◌<◌, ⊤, ℕ, ℤ, pos, ◌+◌, ◌*◌, ◌-◌, ◌/◌, ◌%◌, Bool, true, false, List, [], ◌∷◌, take, drop, Option, Some, None, get_or, length, slice_get, if◌then◌else◌, IsTrue, MatchBool, MatchOption}
+use Rattle.std.specs.Prelude.{◌≡◌, ◌≤◌, ◌<◌, ℕ, ℤ, pos, ◌+◌, ◌*◌, ◌-◌, Bool, false, List, [], ◌∷◌, take, drop, Option, Some, None, get_or, length, slice_get, if◌then◌else◌, IsTrue, MatchBool, MatchOption}
 use Rattle.afl_base.specs.Files.{State}
 use Rattle.db_model.specs.declared.values.Value.{Value}
 use Rattle.db_model.specs.declared.values.Value.TheVariants.{Number, Text}
@@ -9,7 +9,7 @@ use Rattle.tuple_file.specs.Column.{IsNumber}
 use Rattle.tuple_file.specs.Tuples.{rows}
 use Rattle.cursor.specs.declared.block.Block.{Block}
 use Rattle.cursor.specs.declared.join.JoinCursor.{JoinCursor}
-use Rattle.cursor.specs.Marks.{is_marked}
+use Rattle.cursor.specs.Marks.{MayHave}
 use Rattle.cursor.specs.Pairs.{FitsPairs, belongs, join_cost_ahead, lefts_of, pairs_left, partner_slots, right_side_cost, right_side_costs}
 
 -- ---- numbers
@@ -42,9 +42,9 @@ pub record LiesBetween (b : Block) (nth slot : ℕ) : Type 0 where
   pub first : get_or b.firsts nth 0 ≤ slot
   pub last : slot < get_or b.ends nth 0
 
--- the mark of each number that it holds is set
+-- each row that it holds is marked as one that may have its number
 abbrev pub AreMarked : Block → Type 0
-AreMarked b = (nth : ℕ) (number : ℤ) → nth < b.end - b.begin → number_held b nth ≡ Some number → is_marked b.marks number ≡ true
+AreMarked b = (nth : ℕ) (number : ℤ) → nth < b.end - b.begin → number_held b nth ≡ Some number → MayHave b.marks nth number
 
 -- but for the right rows that were read for it, it is the same block
 abbrev pub IsSameBlock : (old new : Block) → Type 0

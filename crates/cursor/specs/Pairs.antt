@@ -45,6 +45,10 @@ behind_pair c slot inner = record c { from = slot + 1; inner = Some inner }
 abbrev pub at_next_left : JoinCursor → JoinCursor
 at_next_left c = record c { at = c.at + 1; from = 0; inner = None }
 
+-- of the left row at which it stands no pair is left
+abbrev pub IsOver : JoinCursor → (lefts rights : List Row) → Type 0
+IsOver c lefts rights = c.at < c.left_slots → pairs_left c lefts rights ≡ pairs_left (at_next_left c) lefts rights
+
 -- where its right side stands in a tree
 abbrev pub place_in : Option Candidates → Option Place
 place_in None = None

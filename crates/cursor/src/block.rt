@@ -5,18 +5,18 @@
 ghost use Rattle.std.specs.Prelude.{None, ◌≡◌, ◌+◌, ◌*◌, ◌-◌, ◌<◌, ◌≤◌, ◌≢◌, ◌==◌, ℕ, ℤ, Some, IfNone, IfOk, IfSome, IsFalse, IsTrue, OnErr, OnOk, List, false, get_or, length, not, slice_get};
 ghost use Rattle.std.specs.List.{list_all};
 ghost use Rattle.afl_base.specs.Keeping.{OnlyReads};
-ghost use Rattle.db_model.specs.Row.{Row, no_row};
+ghost use Rattle.db_model.specs.Row.{Row, fields_length, no_row, row_length, tuple_of};
 ghost use Rattle.tuple_file.specs.Column.{IsNumber};
 ghost use Rattle.tuple_file.specs.Tuples.{HoldsRows, rows, slots};
 ghost use Rattle.cursor.specs.Pairs.{HasLive, MayReadPairs, join_cost_ahead};
 ghost use Rattle.cursor.specs.Blocks.{AreMarked, BeginsAt, FindsSlot, HasMet, HoldsLefts, IsBlockFor, IsBlockOf, IsSameBlock, LiesBetween, MayReadBy, WasRead, cost_by_block, number_held, number_of_row, number_of_value};
 
 use crate::join::JoinCursor;
-use crate::marks::Marks;
+use crate::marks::{Marks, mark_of};
 use afl_base::{Failed, Files, SlotNo};
-use db_model::{Domain, Tuple, Value};
+use db_model::{Attribute, Domain, Tuple};
 use index_set::IndexInfo;
-use tuple_file::Tuples;
+use tuple_file::{Field, ROW_SIZE, Tuples, field_at, get_tuple, is_live, values_suit};
 
 /// The numbers of up to 256 left rows, and for each the first and the last of the right slots read so
 /// far that have the same.
@@ -34,7 +34,7 @@ pub struct Block {
     firsts: [u16; 256],
     // The last slot and 1: 0 where there is none.
     ends: [u16; 256],
-    // Of which numbers the marks are set: most right rows have a number whose mark is not, and so no left row has it.
+    // Which left rows may have a number: a right row is compared with no others.
     marks: Marks,
 }
 
@@ -57,37 +57,40 @@ fn widen(firsts: &mut [u16; 256], ends: &mut [u16; 256], nth: usize, slot: u16)
     }
 }
 
-// The number at a place of a tuple.
-fn number_of(tuple: &Tuple, place: u8) -> Option<i64>
-    ensures { result ≡ number_of_value (slice_get tuple.now place) }
+// The number at a place of a row.
+fn number_at(attributes: &[Attribute], row: &[u8], place: u8) -> Option<i64>
+    requires { fields_length attributes.now ≤ length row.now }
+    ensures { result ≡ number_of_value (slice_get (tuple_of attributes.now row.now) place) }
 {
-    match tuple.as_slice().get(usize::from(place)) {
-        Some(Value::Number(number)) => Some(*number),
-        Some(Value::Text(_)) => None,
+    match field_at(attributes, row, place) {
+        Some(Field::Number(number)) => Some(number),
+        Some(Field::Text(_)) => None,
         None => None,
     }
 }
 
-// The number at a place of the row in a slot, none where the row is removed. Its tuple stands in `into`.
+// The number at a place of the row in a slot, none where the row is removed. Its bytes are read into `row`.
 pub(crate) fn number_in<V: Files>(
     files: &mut V,
     tuples: &Tuples,
     slot: u16,
     place: u8,
-    into: &mut Tuple,
+    row: &mut [u8],
 ) -> Result<Option<i64>, Failed>
     requires holds { HoldsRows (V.state files.old) tuples.now }
     requires slot { slot < slots (V.state files.old).files tuples.now }
+    requires size { length row.old ≡ row_length tuples.now.schema.attributes }
     ensures number { let all = rows (V.state files.old).files tuples.now in
         IsTrue (V.state files.old).tells
         → IfOk result (λ found. found ≡ number_of_row place (get_or all slot no_row)) }
     ensures tuple { let all = rows (V.state files.old).files tuples.now in
-        IsTrue (V.state files.old).tells
-        → IfOk result (λ found. IfSome found (λ _. HasLive all slot into.new)) }
+        IsTrue (V.state files.old).tells → IfOk result (λ found. IfSome found (λ _.
+        HasLive all slot (tuple_of tuples.now.schema.attributes row.new))) }
     ensures removed { let all = rows (V.state files.old).files tuples.now in
         IsTrue (V.state files.old).tells → IfOk result (λ found.
         IfNone found (IsNumber tuples.now.schema.attributes place
         → (get_or all slot no_row).live ≡ false)) }
+    ensures size { length row.new ≡ length row.old }
     ensures reads { V.reads files.new ≤ V.reads files.old + 6 }
     ensures frame { OnlyReads V.state V.lent V.reads V.faults files.old files.new result }
 {
@@ -95,10 +98,12 @@ pub(crate) fn number_in<V: Files>(
         Some(slot) => slot,
         None => return Ok(None),
     };
-    if !tuples.row(files, slot, into)? {
+    tuples.row_bytes(files, slot, row)?;
+    values_suit(&tuples.schema.attributes, row);
+    if !is_live(row) {
         return Ok(None);
     }
-    Ok(number_of(into, place))
+    Ok(number_at(tuples.schema.attributes.as_slice(), row, place))
 }
 
 // Whether a place has numbers.
@@ -174,7 +179,7 @@ impl Block {
             Some(number) => {
                 self.numbers[nth] = *number;
                 self.live[nth] = true;
-                self.marks.set(number);
+                self.marks.set(number, nth as u8);
             }
             None => self.live[nth] = false,
         }
@@ -205,10 +210,10 @@ impl Block {
         ensures meets { AreMarked self.old → (k : ℕ) → k < self.old.end - self.old.begin
             → number_held self.old k ≡ Some number.now → LiesBetween self.new k slot }
     {
-        if !self.marks.has(number) {
-            return;
-        }
-        for nth in 0..self.end.saturating_sub(self.begin) {
+        let mark = mark_of(number);
+        let first = self.marks.first(mark);
+        let end = self.marks.end(mark);
+        for nth in first..end {
             self.note(usize::from(nth), number, slot);
         }
     }
@@ -266,7 +271,6 @@ impl Block {
         &mut self,
         files: &mut V,
         cursor: &JoinCursor,
-        left: &mut Tuple,
     ) -> Result<(), Failed>
         requires may_read { MayReadPairs (V.state files.old) cursor.now }
         requires here { cursor.now.at < cursor.now.left_slots }
@@ -287,25 +291,28 @@ impl Block {
         self.end = cursor.at;
         self.seen = 0;
         self.marks = Marks::none();
+        let mut bytes = [0; ROW_SIZE];
+        let row = &mut bytes[..cursor.left.length()];
         'rows: while self.end < end {
-            let number = number_in(files, &cursor.left, self.end, cursor.left_on, left)?;
+            let number = number_in(files, &cursor.left, self.end, cursor.left_on, row)?;
             self.push(&number);
         }
         Ok(())
     }
 
-    // Reads a right row, and notes it for the left rows with its number. Its tuple stands in `right`.
+    // Reads a right row into `row`, and notes it for the left rows with its number.
     fn read<V: Files>(
         &mut self,
         files: &mut V,
         cursor: &JoinCursor,
         slot: u16,
-        right: &mut Tuple,
+        row: &mut [u8],
     ) -> Result<Option<i64>, Failed>
         requires may_read { MayReadPairs (V.state files.old) cursor.now }
         requires here { slot < cursor.now.right_slots }
         requires few { self.old.end ≤ self.old.begin + 256 }
         requires seen { slot ≤ self.old.seen }
+        requires size { length row.old ≡ row_length cursor.now.right.schema.attributes }
         ensures kept { OnOk result (IsSameBlock self.old self.new) }
         ensures seen { OnOk result (slot < self.new.seen) }
         ensures within { OnOk result (self.old.seen ≤ cursor.now.right_slots
@@ -314,15 +321,16 @@ impl Block {
             IsTrue (V.state files.old).tells
             → IfOk result (λ found. found ≡ number_of_row cursor.now.right_on (get_or all slot no_row)) }
         ensures tuple { let all = rows (V.state files.old).files cursor.now.right in
-            IsTrue (V.state files.old).tells
-            → IfOk result (λ found. IfSome found (λ _. HasLive all slot right.new)) }
+            IsTrue (V.state files.old).tells → IfOk result (λ found. IfSome found (λ _.
+            HasLive all slot (tuple_of cursor.now.right.schema.attributes row.new))) }
+        ensures size { length row.new ≡ length row.old }
         ensures met { let all = rows (V.state files.old).files cursor.now.right in
             IsTrue (V.state files.old).tells → OnOk result (HasMet self.old cursor.now.right_on all
             → HasMet self.new cursor.now.right_on all) }
         ensures reads { V.reads files.new ≤ V.reads files.old + 6 }
         ensures frame { OnlyReads V.state V.lent V.reads V.faults files.old files.new result }
     {
-        let found = number_in(files, &cursor.right, slot, cursor.right_on, right)?;
+        let found = number_in(files, &cursor.right, slot, cursor.right_on, row)?;
         self.see(&found, slot);
         Ok(found)
     }
@@ -434,9 +442,12 @@ impl Block {
     {
         let end = self.end_of(cursor, nth);
         let mut slot = self.first_of(cursor, nth);
+        let mut bytes = [0; ROW_SIZE];
+        let row = &mut bytes[..cursor.right.length()];
         'slots: while slot < end {
-            let found = self.read(files, cursor, slot, right)?;
+            let found = self.read(files, cursor, slot, row)?;
             if is_number(&found, number) {
+                get_tuple(&cursor.right.schema.attributes, row, right);
                 return Ok(SlotNo::new(slot));
             }
             slot += 1;

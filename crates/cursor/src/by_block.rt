@@ -14,15 +14,11 @@ use crate::join::JoinCursor;
 use afl_base::{Failed, Files, SlotNo};
 use db_model::Tuple;
 use index_set::HashTables;
+use tuple_file::{ROW_SIZE, get_tuple};
 
 impl JoinCursor {
     // Sees to it that the block has the left row at which it stands.
-    fn take_block<V: Files>(
-        &self,
-        files: &mut V,
-        block: &mut Block,
-        left: &mut Tuple,
-    ) -> Result<(), Failed>
+    fn take_block<V: Files>(&self, files: &mut V, block: &mut Block) -> Result<(), Failed>
         requires may_read { MayReadPairs (V.state files.old) self.now }
         requires here { self.now.at < self.now.left_slots }
         requires block { IsBlockFor block.old self.now }
@@ -41,7 +37,7 @@ impl JoinCursor {
         if self.at < block.end {
             return Ok(());
         }
-        block.fill(files, self, left)?;
+        block.fill(files, self)?;
         Ok(())
     }
 
@@ -79,7 +75,10 @@ impl JoinCursor {
     {
         match block.partner(files, self, right)? {
             Some(slot) => {
-                number_in(files, &self.left, self.at, self.left_on, left)?;
+                let mut bytes = [0; ROW_SIZE];
+                let row = &mut bytes[..self.left.length()];
+                number_in(files, &self.left, self.at, self.left_on, row)?;
+                get_tuple(&self.left.schema.attributes, row, left);
                 Ok(Some(slot))
             }
             None => Ok(None),
@@ -87,6 +86,8 @@ impl JoinCursor {
     }
 
     // As `next`, by a block that serves.
+    // Not inlined: `next` would keep its rows on the stack.
+    #[inline(never)]
     fn next_in_block<V: Files>(
         &mut self,
         files: &mut V,
@@ -116,7 +117,7 @@ impl JoinCursor {
         ensures frame { OnlyReads V.state V.lent V.reads V.faults files.old files.new result }
     {
         'lefts: while self.at < self.left_slots {
-            self.take_block(files, block, left)?;
+            self.take_block(files, block)?;
             match self.pair_in_block(files, block, left, right)? {
                 Some(slot) => {
                     self.from = slot.number() + 1;

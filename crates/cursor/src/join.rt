@@ -3,11 +3,12 @@
 #![tactic(auto)]
 
 ghost use Rattle.std.specs.Prelude.{None, ◌≡◌, ◌+◌, ◌*◌, ◌<◌, ◌≤◌, IfOk, IfSome, IsTrue, OnErr, OnOk, List, length};
+ghost use Rattle.afl_base.specs.Files.{State};
 ghost use Rattle.afl_base.specs.Keeping.{OnlyReads};
 ghost use Rattle.db_model.specs.Row.{Row};
 ghost use Rattle.index_set.specs.Complete.{AreReadable};
 ghost use Rattle.tuple_file.specs.Tuples.{HoldsRows, rows, slots};
-ghost use Rattle.cursor.specs.Pairs.{FailsPair, FitsPairs, HasAnswered, HasLive, IsBegunJoin, MayReadPairs, MovesOn, PairsAt, PaysAt, StopsAt, YieldsPair, behind_pair, join_cost_ahead, join_cost_behind, matching, pairs_left, place_in, right_side_costs};
+ghost use Rattle.cursor.specs.Pairs.{FailsPair, FitsPairs, HasAnswered, HasLive, IsBegunJoin, IsOver, MayReadPairs, MovesOn, PairsAt, PaysAt, StopsAt, YieldsPair, behind_pair, join_cost_ahead, join_cost_behind, matching, pairs_left, place_in, right_side_costs};
 
 use crate::partner::{Partner, Partnered, next_partner, value_at};
 use afl_base::{Failed, Files, SlotNo};
@@ -99,6 +100,17 @@ impl JoinCursor {
         self.inner = None;
     }
 
+    // Whether the right side knows without a read that the left row at which it stands has no pair left.
+    fn is_over(&self, tables: &HashTables) -> bool
+        ensures { IsTrue result → (state : State) → MayReadPairs state self.now → FitsPairs self.now state tables.now
+            → IsOver self.now (rows state.files self.now.left) (rows state.files self.now.right) }
+    {
+        match &self.inner {
+            Some(inner) => inner.is_over(tables),
+            None => false,
+        }
+    }
+
     // The next pair of the left row at which it stands, `None` exactly where there is none.
     fn pair_at<V: Files>(
         &self,
@@ -132,6 +144,9 @@ impl JoinCursor {
             ≤ V.reads files.old + join_cost_ahead self.now lefts rights) }
         ensures frame { OnlyReads V.state V.lent V.reads V.faults files.old files.new result }
     {
+        if self.is_over(tables) {
+            return Ok(None);
+        }
         let slot = match SlotNo::new(self.at) {
             Some(slot) => slot,
             None => return Ok(None),

@@ -2,6 +2,7 @@ pub mod Grown
 pub mod Slots
 pub mod Seeks
 pub mod Nexts
+pub mod Peeks
 pub mod Ended
 pub mod Lists
 pub mod Inserted

@@ -2,7 +2,7 @@
 
 #![tactic(auto)]
 
-ghost use Rattle.std.specs.Prelude.{None, ℤ, ◌≡◌, ◌+◌, ◌<◌, ◌≤◌, ◌∷◌, [], List, IfNone, IfOk, IfSome, IsTrue, OnOk, OnErr, MatchOption, length, max};
+ghost use Rattle.std.specs.Prelude.{None, ℤ, ◌≡◌, ◌≢◌, ◌+◌, ◌<◌, ◌≤◌, ◌∷◌, [], List, IfNone, IfOk, IfSome, IsFalse, IsTrue, OnOk, OnErr, MatchOption, length, max};
 ghost use Rattle.afl_base.specs.Keeping.{OnlyReads};
 ghost use Rattle.afl_base.specs.Files.{IsLive, State};
 ghost use Rattle.db_model.specs.Ahead.{walk_of as walk_by};
@@ -163,6 +163,24 @@ impl Candidates {
     {
         self.from = self.slots;
         self.end = self.slots;
+    }
+
+    /// Whether no slot is left, told without a read. Of a tree it is not told.
+    pub fn is_over(&self, tables: &HashTables) -> bool
+        ensures over { IsTrue result → (state : State) (all : List Row) → Fits self.now state tables.now all
+            → ahead self.now all ≡ [] }
+        ensures more { IsFalse result → walk_of_search self.now.search ≡ None
+            → (state : State) (all : List Row) → Fits self.now state tables.now all
+            → ahead self.now all ≢ [] }
+    {
+        let mut peeked = *self;
+        match self.search {
+            Search::Nothing => true,
+            Search::Scan => peeked.next_below(self.slots).is_none(),
+            Search::Order { .. } => peeked.next_below(self.end).is_none(),
+            Search::Tree { .. } => false,
+            Search::Table { table, key, .. } => peeked.next_in_table(tables, table, &key).is_none(),
+        }
     }
 
     // The next slot. Where there is none, it stands where it did.

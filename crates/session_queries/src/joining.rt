@@ -88,7 +88,7 @@ pub fn plan_pairs(
 }
 
 /// Writes the pairs that a JOIN asks for, and their number.
-// Not inlined, so that its block, of 7 KB, is on the stack of no other query.
+// Not inlined, so that its block, of 4 KB, is on the stack of no other query.
 #[inline(never)]
 pub fn join<V: Files, K: Sink>(
     files: &mut V,

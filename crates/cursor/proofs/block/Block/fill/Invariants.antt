@@ -1,4 +1,5 @@
-use Rattle.std.proofs.Common.{◌≡◌, ◌+◌, ◌*◌, ◌-◌, ◌≤◌, IsTrue}
+use Rattle.std.proofs.Common.{◌≡◌, ◌+◌, ◌*◌, ◌-◌, ◌≤◌, IsTrue, length}
+use Rattle.db_model.specs.Row.{row_length}
 use Rattle.tuple_file.specs.Column.{IsNumber}
 use Rattle.tuple_file.specs.Tuples.{rows}
 use Rattle.cursor.specs.Blocks.{AreMarked, HoldsLefts}
@@ -15,6 +16,7 @@ invariant-rows g l = record {
   anew : l.self.seen ≡ 0;
   order : l.cursor.at ≤ l.self.end;
   within : l.self.end ≤ l.end;
+  size : length l.row ≡ row_length l.cursor.left.schema.attributes;
   marked : AreMarked l.self;
   reads : g.V.Files.reads l.files + 6 * l.cursor.at ≤ g.V.Files.reads l.fn.files + 6 * l.self.end;
   lefts : IsTrue (g.V.Files.state l.fn.files).tells → IsNumber l.cursor.left.schema.attributes l.cursor.left_on

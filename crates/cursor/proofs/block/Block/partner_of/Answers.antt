@@ -1,4 +1,4 @@
-use Rattle.std.proofs.Common.{rules, ◌≡◌, ◌-◌, ◌<◌, ◌∙◌, ℕ, Some, None, arith, refl, subst, sym, ap, cond, nat_lt}
+use Rattle.std.proofs.Common.{rules, ◌≡◌, ◌-◌, ◌<◌, ◌∙◌, ℕ, Some, arith, refl, subst, sym, ap}
 use Rattle.tuple_file.specs.Tuples.{rows}
 use Rattle.cursor.specs.declared.block.Block.{Block}
 use Rattle.cursor.specs.Blocks.{number_held}
@@ -17,6 +17,7 @@ slots-init g c =
       faults = refl;
       kept = refl;
       order = first.order;
+      size = λ some. search rules;
       seen = first.seen;
       within = c.requires.block.seen;
       reads = omega (arith, first.order);
@@ -59,6 +60,7 @@ slots-preserved g c =
       faults = h.frame.faultless ∙ inv.faults;
       kept = h.kept ∙ ap (λ (x : Block). record x { seen = c.read.new.self.seen; firsts = c.read.new.self.firsts; ends = c.read.new.self.ends }) inv.kept;
       order = omega (arith, inv.order);
+      size = λ some. h.size ∙ inv.size some;
       seen = omega (arith, h.seen);
       within = h.within inv.within;
       reads = omega (arith, inv.reads, h.reads);

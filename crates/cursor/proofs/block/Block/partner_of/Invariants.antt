@@ -1,4 +1,5 @@
-use Rattle.std.proofs.Common.{◌≡◌, ◌+◌, ◌*◌, ◌-◌, ◌≤◌, IsTrue}
+use Rattle.std.proofs.Common.{◌≡◌, ◌+◌, ◌*◌, ◌-◌, ◌<◌, ◌≤◌, IsTrue, length}
+use Rattle.db_model.specs.Row.{row_length}
 use Rattle.tuple_file.specs.Tuples.{rows}
 use Rattle.cursor.specs.Blocks.{HasMet}
 use Rattle.cursor.proofs.BlockSteps.{Passing}
@@ -12,6 +13,7 @@ invariant-slots g l = record {
   faults : g.V.Files.faults l.files ≡ g.V.Files.faults l.fn.files;
   kept : l.self ≡ record l.fn.self { seen = l.self.seen; firsts = l.self.firsts; ends = l.self.ends };
   order : l.cursor.from ≤ l.slot;
+  size : 0 < l.cursor.right_slots → length l.row ≡ row_length l.cursor.right.schema.attributes;
   seen : l.slot ≤ l.self.seen;
   within : l.self.seen ≤ l.cursor.right_slots;
   reads : g.V.Files.reads l.files + 6 * l.cursor.from ≤ g.V.Files.reads l.fn.files + 6 * l.slot;

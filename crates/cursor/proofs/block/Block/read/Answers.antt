@@ -1,4 +1,3 @@
-use Rattle.std.proofs.Common.{ap}
 use Rattle.tuple_file.specs.Tuples.{rows}
 use Rattle.cursor.proofs.Blocks.{met_more}
 use Rattle.cursor.proofs.block.Block.read.Goals as goal

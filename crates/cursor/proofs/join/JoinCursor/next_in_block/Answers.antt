@@ -1,11 +1,11 @@
-use Rattle.std.proofs.Common.{rules, ◌≡◌, ◌+◌, ◌≤◌, ◌∙◌, Some, None, true, ap, arith, refl}
+use Rattle.std.proofs.Common.{◌+◌, ◌≤◌, ◌∙◌, Some, None, ap, arith, refl}
 use Rattle.padded.proofs.Facts.{on_err}
 use Rattle.tuple_file.specs.Tuples.{rows}
 use Rattle.cursor.specs.declared.block.Block.{Block}
 use Rattle.cursor.specs.declared.join.JoinCursor.{JoinCursor}
 use Rattle.cursor.specs.Blocks.{IsBlockOf, cost_by_block}
 use Rattle.cursor.specs.Pairs.{FitsPairs}
-use Rattle.cursor.proofs.BlockWalk.{fails_paid, for_next, may_at, take_fails, walk_begins, walks_on, yields_none, yields_pair}
+use Rattle.cursor.proofs.BlockWalk.{fails_paid, for_next, may_at, take_fails, walks_on, yields_none, yields_pair}
 use Rattle.cursor.proofs.join.JoinCursor.next_in_block.Goals as goal
 
 pub returns-in_err-take_block-clause-reads_err : goal.returns-in_err-take_block-clause-reads_err

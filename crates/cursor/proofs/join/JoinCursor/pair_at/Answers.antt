@@ -6,6 +6,16 @@ use Rattle.cursor.proofs.Joins.{fault_cost, left_cost, left_there, no_live, no_r
 use Rattle.cursor.proofs.Suited.{count_rows}
 use Rattle.cursor.proofs.join.JoinCursor.pair_at.Goals as goal
 
+pub returns-then-is_over-clause-steps : goal.returns-then-is_over-clause-steps
+returns-then-is_over-clause-steps g c = λ told fits.
+    let state = g.V.Files.state c.args.files.now in
+    let k = c.args.self.now in
+    let next = c.is_over.ensures c.if-is_over.true state c.requires.may_read fits c.requires.here in (
+      next,
+      left_cost k (rows state.files k.left) (rows state.files k.right) (g.V.Files.reads c.args.files.now) (g.V.Files.reads c.args.files.now) c.requires.here
+          next (omega arith),
+    )
+
 pub returns-then-not-branch-clause-steps : goal.returns-then-not-branch-clause-steps
 returns-then-not-branch-clause-steps g c = λ told fits.
     let state = g.V.Files.state c.args.files.now in

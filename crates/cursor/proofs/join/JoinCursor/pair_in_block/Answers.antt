@@ -1,5 +1,6 @@
-use Rattle.std.proofs.Common.{◌≡◌, ◌+◌, ◌-◌, ◌*◌, ◌≤◌, Some, None, arith}
+use Rattle.std.proofs.Common.{◌+◌, ◌-◌, ◌≤◌, Some, None}
 use Rattle.padded.proofs.Facts.{on_err}
+use Rattle.db_model.specs.Row.{tuple_of}
 use Rattle.tuple_file.specs.Tuples.{rows}
 use Rattle.cursor.specs.Blocks.{HasMetRights, cost_in_blocks}
 use Rattle.cursor.proofs.BlockPairs.{block_pairs, fault_paid, left_fault, left_read, lefts_there, none_paid, rights_there, row_paid, some_paid}
@@ -47,6 +48,7 @@ pub returns-in_ok-number_in-in-Some-clause-pairs : goal.returns-in_ok-number_in-
 returns-in_ok-number_in-in-Some-clause-pairs g c = λ told read.
     let state = g.V.Files.state c.args.files.now in
     let k = c.args.self.now in
+    let left = tuple_of k.left.schema.attributes c.number_in.new.row in
     let b = c.args.block.now in
     let lefts = rows state.files k.left in
     let rights = rows state.files k.right in
@@ -59,9 +61,9 @@ returns-in_ok-number_in-in-Some-clause-pairs g c = λ told read.
     let below = seen.below in
     let there = (rw c.in-Some.is at c.in_ok-slot.ensures.tuple) told in
     let paid = rw c.in-Some.is at c.in_ok-slot.ensures.reads_some in
-    let row = left_read b k lefts rights c.requires.block read c.requires.here c.requires.inside many few c.in-Some.slot finds c.in_ok-number_in-in-Some.field-0 ((rw c.in_ok-slot.ensures.frame.same at c.in_ok-number_in-in-Some.ensures.number) told) c.number_in.new.into ((rw c.in_ok-slot.ensures.frame.same at c.in_ok-number_in-in-Some.ensures.tuple) told) in
-    let pairs = block_pairs b k lefts rights c.requires.block read c.requires.here c.requires.inside many few (Some c.in-Some.slot) c.number_in.new.into c.partner.new.right finds below there row in
-    pairs
+    let row = left_read b k lefts rights c.requires.block read c.requires.here c.requires.inside many few c.in-Some.slot finds c.in_ok-number_in-in-Some.field-0 ((rw c.in_ok-slot.ensures.frame.same at c.in_ok-number_in-in-Some.ensures.number) told) left ((rw c.in_ok-slot.ensures.frame.same at c.in_ok-number_in-in-Some.ensures.tuple) told) in
+    let pairs = block_pairs b k lefts rights c.requires.block read c.requires.here c.requires.inside many few (Some c.in-Some.slot) left c.partner.new.right finds below there row in
+    rw c.get_tuple.ensures.tuple pairs
 
 pub returns-in_ok-number_in-in-Some-clause-read : goal.returns-in_ok-number_in-in-Some-clause-read
 returns-in_ok-number_in-in-Some-clause-read g c = λ told read. record {
@@ -73,6 +75,7 @@ pub returns-in_ok-number_in-in-Some-clause-reads : goal.returns-in_ok-number_in-
 returns-in_ok-number_in-in-Some-clause-reads g c = λ told read.
     let state = g.V.Files.state c.args.files.now in
     let k = c.args.self.now in
+    let left = tuple_of k.left.schema.attributes c.number_in.new.row in
     let b = c.args.block.now in
     let lefts = rows state.files k.left in
     let rights = rows state.files k.right in
@@ -85,9 +88,9 @@ returns-in_ok-number_in-in-Some-clause-reads g c = λ told read.
     let below = seen.below in
     let there = (rw c.in-Some.is at c.in_ok-slot.ensures.tuple) told in
     let paid = rw c.in-Some.is at c.in_ok-slot.ensures.reads_some in
-    let row = left_read b k lefts rights c.requires.block read c.requires.here c.requires.inside many few c.in-Some.slot finds c.in_ok-number_in-in-Some.field-0 ((rw c.in_ok-slot.ensures.frame.same at c.in_ok-number_in-in-Some.ensures.number) told) c.number_in.new.into ((rw c.in_ok-slot.ensures.frame.same at c.in_ok-number_in-in-Some.ensures.tuple) told) in
-    let pairs = block_pairs b k lefts rights c.requires.block read c.requires.here c.requires.inside many few (Some c.in-Some.slot) c.number_in.new.into c.partner.new.right finds below there row in
-    some_paid b k lefts rights c.requires.block read c.requires.here c.requires.inside many few r0 r1 (g.V.Files.reads c.number_in.new.files) c.in-Some.slot (c.number_in.new.into, c.partner.new.right) finds below pairs paid c.in_ok-number_in-in-Some.ensures.reads
+    let row = left_read b k lefts rights c.requires.block read c.requires.here c.requires.inside many few c.in-Some.slot finds c.in_ok-number_in-in-Some.field-0 ((rw c.in_ok-slot.ensures.frame.same at c.in_ok-number_in-in-Some.ensures.number) told) left ((rw c.in_ok-slot.ensures.frame.same at c.in_ok-number_in-in-Some.ensures.tuple) told) in
+    let pairs = block_pairs b k lefts rights c.requires.block read c.requires.here c.requires.inside many few (Some c.in-Some.slot) left c.partner.new.right finds below there row in
+    some_paid b k lefts rights c.requires.block read c.requires.here c.requires.inside many few r0 r1 (g.V.Files.reads c.number_in.new.files) c.in-Some.slot (left, c.partner.new.right) finds below pairs paid c.in_ok-number_in-in-Some.ensures.reads
 
 pub returns-in-None-clause-pairs : goal.returns-in-None-clause-pairs
 returns-in-None-clause-pairs g c = λ told read.
